@@ -1,0 +1,367 @@
+-- The laws of a format, and that each way to build one keeps them.
+use Rattle.std.proofs.Common.{◌≡◌, ℕ, ℤ, pos, negsuc, ◌-◌, FitsSigned, zero, suc, ◌+◌, ◌^◌, ◌%◌, ◌<◌, ◌≤◌, Bool, true, false, cond, ltb, leb, eqb, List, [], ◌∷◌, ◌++◌, length, get_or, take, drop, Option, Some, None, refl, sym, ap, subst, ◌∙◌, append_assoc, arith, inl, inr}
+use Rattle.std.specs.Prelude.{IsTrue, ◌&&◌}
+use Rattle.std.specs.List.{flat_map, AllByRecursion}
+use Rattle.std.specs.Int.{Width, w8, w16, w32, w64, byte_len, cast_signed, cast_unsigned, from_be_bytes, to_be_bytes}
+use Rattle.std.proofs.lemmas.Bool.{cases_lt, ltb-false, ltb-true, lt-ltb, le-ltb, leb-true, le-leb, eqb-true}
+use Rattle.std.proofs.lemmas.List.{take_at, drop_at, take-append-drop, length-append, length-take, get_or-drop, get_or-take, get_or_past, append-nil, nil_from_length}
+use Rattle.std.proofs.lemmas.List.Concat.{flat_map-cons}
+use Rattle.std.proofs.lemmas.Nat.{be_bytes_2, be_bytes_4, be_bytes_8, from_be_bytes-to_be_bytes_2, from_be_bytes-to_be_bytes_4, from_be_bytes-to_be_bytes_8}
+use Rattle.std.proofs.lemmas.Int.{of_z-to_z, to_z-of_z}
+use Rattle.std.proofs.Math.Facts.{Fits-of_z, sfits_to_z, Fits-of_lt, Fits-lt-pow}
+use Rattle.lt_model.specs.Value.{fits_64}
+use Rattle.lt_codecs.specs.Codec.{Codec, ◌>>=◌, number, ◌then◌, u8, u16, u32, u64, mapped, where_true, read_times, counted, i64, bytes_by, bytes16, bytes32, optional, optional_read, optional_spell, OptionalLawful, whole, sized, body_of}
+
+abbrev pub IsBytes : List ℕ → Type 0
+IsBytes bytes = (i : ℕ) → get_or bytes i 0 < 256
+
+pub IsBytes-drop : (n : ℕ) (bytes : List ℕ) → IsBytes bytes → IsBytes (drop n bytes)
+IsBytes-drop n bytes h i = rw get_or-drop (h (n + i))
+
+pub IsBytes-take : (n : ℕ) (bytes : List ℕ) → IsBytes bytes → IsBytes (take n bytes)
+IsBytes-take n bytes h i =
+    elim (cases_lt i n) [
+      | inl lt ↦ rw (get_or-take n bytes i 0 lt) (h i)
+      | inr le ↦ rw (get_or_past (take n bytes) i 0 (omega (arith, length-take n bytes))) (omega arith)
+    ]
+
+-- what a reader took from the front
+pub record Takes (bytes text rest : List ℕ) : Type 0 where
+  pub parts : bytes ≡ text ++ rest
+  pub rest_fits : IsBytes rest
+
+pub Takes-then : (a x b y c : List ℕ) → Takes a x b → Takes b y c → Takes a (x ++ y) c
+Takes-then a x b y c p q = record { parts = p.parts ∙ ap (λ (t : List ℕ). x ++ t) q.parts ∙ sym (append_assoc x y c); rest_fits = q.rest_fits }
+
+-- what is read is lawful and spelled so, and what is lawful and spelled so is read, whatever follows
+pub record IsCodec {A : Type 0} (c : Codec A) : Type 0 where
+  pub takes : (bytes : List ℕ) (x : A) (rest : List ℕ) → IsBytes bytes → c.read bytes ≡ Some (x, rest) → Takes bytes (c.spell x) rest × c.Lawful x
+  pub again : (x : A) (rest : List ℕ) → c.Lawful x → c.read (c.spell x ++ rest) ≡ Some (x, rest)
+
+pub bind_some : {A B : Type 0} (o : Option A) (f : A → Option B) (y : B) → (o >>= f) ≡ Some y → (x : A) × (o ≡ Some x) × (f x ≡ Some y)
+bind_some (Some x) f y e = (x, refl, e)
+bind_some None f y e = absurd cc
+
+pub guard_some : {A : Type 0} (b : Bool) (x y : A) → cond b (Some x) None ≡ Some y → (b ≡ true) × (x ≡ y)
+guard_some true x y e = (refl, cc)
+guard_some false x y e = absurd cc
+
+pub guard_none : {A : Type 0} (b : Bool) (x y : A) → cond b None (Some x) ≡ Some y → (b ≡ false) × (x ≡ y)
+guard_none true x y e = absurd cc
+guard_none false x y e = (refl, cc)
+
+abbrev some : {A : Type 0} → A → Option A
+some x = Some x
+
+pub some_is : {A : Type 0} (x y : A) → some x ≡ some y → x ≡ y
+some_is x y e = cc
+
+-- spellings do not begin one another, whatever follows them
+pub spell_apart : {A : Type 0} (c : Codec A) → IsCodec c → (x y : A) (r s : List ℕ) → c.Lawful x → c.Lawful y → c.spell x ++ r ≡ c.spell y ++ s → (x ≡ y) × (r ≡ s)
+spell_apart {A} c p x y r s h i e =
+    let same = some_is (x, r) (y, s) (sym (p.again x r h) ∙ ap c.read e ∙ p.again y s i) in
+    (ap (λ (z : A × List ℕ). z.0) same, ap (λ (z : A × List ℕ). z.1) same)
+
+-- bytes that are not read begin with no lawful spelling
+pub unread : {A : Type 0} (c : Codec A) → IsCodec c → (bytes : List ℕ) → c.read bytes ≡ None → (x : A) (rest : List ℕ) → c.Lawful x → bytes ≡ c.spell x ++ rest → ⊥
+unread c p bytes none x rest lawful e = let read = p.again x rest lawful in let front = ap c.read e in cc
+
+pub then_is : {A B : Type 0} (a : Codec A) (b : Codec B) → IsCodec a → IsCodec b → IsCodec (a then b)
+then_is {A} {B} a b p q = record {
+  takes = λ bytes x rest fits e.
+      let one = bind_some (a.read bytes) (λ x. b.read x.1 >>= λ y. Some ((x.0, y.0), y.1)) (x, rest) e in
+      let two = bind_some (b.read one.0.1) (λ y. Some ((one.0.0, y.0), y.1)) (x, rest) one.2 in
+      let t = p.takes bytes one.0.0 one.0.1 fits one.1 in
+      let u = q.takes one.0.1 two.0.0 two.0.1 t.0.rest_fits two.1 in
+      let both = Takes-then bytes (a.spell one.0.0) one.0.1 (b.spell two.0.0) two.0.1 t.0 u.0 in
+      let made : (A × B) × List ℕ = ((one.0.0, two.0.0), two.0.1) in
+      subst (λ (z : (A × B) × List ℕ). Takes bytes (a.spell z.0.0 ++ b.spell z.0.1) z.1 × (a.Lawful z.0.0 × b.Lawful z.0.1)) (some_is made (x, rest) two.2) (both, (t.1, u.1));
+  again = λ x rest lawful.
+      ap (a then b).read (append_assoc (a.spell x.0) (b.spell x.1) rest) ∙ rw (p.again x.0 (b.spell x.1 ++ rest) lawful.0, q.again x.1 rest lawful.1) refl;
+}
+
+pub mapped_is : {A B : Type 0} (to : A → B) (from : B → A) (a : Codec A) → ((x : A) → a.Lawful x → from (to x) ≡ x) → ((y : B) → a.Lawful (from y) → to (from y) ≡ y) → IsCodec a → IsCodec (mapped to from a)
+mapped_is {A} {B} to from a back forth p = record {
+  takes = λ bytes y rest fits e.
+      let one = bind_some (a.read bytes) (λ x. Some (to x.0, x.1)) (y, rest) e in
+      let t = p.takes bytes one.0.0 one.0.1 fits one.1 in
+      let made : B × List ℕ = (to one.0.0, one.0.1) in
+      let same : from (to one.0.0) ≡ one.0.0 = back one.0.0 t.1 in
+      subst (λ (z : B × List ℕ). Takes bytes (a.spell (from z.0)) z.1 × a.Lawful (from z.0)) (some_is made (y, rest) one.2)
+      (subst (λ (x : A). Takes bytes (a.spell x) one.0.1 × a.Lawful x) (sym same) t);
+  again = λ y rest lawful. rw (p.again (from y) rest lawful, forth y lawful) refl;
+}
+
+pub where_true_is : {A : Type 0} (test : A → Bool) (a : Codec A) → IsCodec a → IsCodec (where_true test a)
+where_true_is {A} test a p = record {
+  takes = λ bytes y rest fits e.
+      let one = bind_some (a.read bytes) (λ x. cond (test x.0) (Some x) None) (y, rest) e in
+      let g = guard_some (test one.0.0) one.0 (y, rest) one.2 in
+      let t = p.takes bytes one.0.0 one.0.1 fits one.1 in
+      subst (λ (z : A × List ℕ). Takes bytes (a.spell z.0) z.1 × (a.Lawful z.0 × IsTrue (test z.0))) g.1 (t.0, (t.1, g.0));
+  again = λ y rest lawful. rw (p.again y rest lawful.0, lawful.1) refl;
+}
+
+pub times_take : {A : Type 0} (a : Codec A) → IsCodec a → (n : ℕ) (bytes : List ℕ) (xs : List A) (rest : List ℕ) → IsBytes bytes → read_times a.read n bytes ≡ Some (xs, rest) → Takes bytes (flat_map a.spell xs) rest × (length xs ≡ n) × AllByRecursion a.Lawful xs
+times_take {A} a p zero bytes xs rest fits e =
+    subst (λ (z : List A × List ℕ). Takes bytes (flat_map a.spell z.0) z.1 × (length z.0 ≡ 0) × AllByRecursion a.Lawful z.0) (some_is ([], bytes) (xs, rest) e) (record { parts = refl; rest_fits = fits }, refl, tt)
+times_take {A} a p (suc n) bytes xs rest fits e =
+    let one = bind_some (a.read bytes) (λ x. read_times a.read n x.1 >>= λ ys. Some (x.0 ∷ ys.0, ys.1)) (xs, rest) e in
+    let two = bind_some (read_times a.read n one.0.1) (λ ys. Some (one.0.0 ∷ ys.0, ys.1)) (xs, rest) one.2 in
+    let t = p.takes bytes one.0.0 one.0.1 fits one.1 in
+    let u = times_take a p n one.0.1 two.0.0 two.0.1 t.0.rest_fits two.1 in
+    let both = Takes-then bytes (a.spell one.0.0) one.0.1 (flat_map a.spell two.0.0) two.0.1 t.0 u.0 in
+    let made : List A × List ℕ = (one.0.0 ∷ two.0.0, two.0.1) in
+    subst (λ (z : List A × List ℕ). Takes bytes (flat_map a.spell z.0) z.1 × (length z.0 ≡ suc n) × AllByRecursion a.Lawful z.0) (some_is made (xs, rest) two.2) (rw flat_map-cons both, ap suc u.1, (t.1, u.2))
+
+pub times_again : {A : Type 0} (a : Codec A) → IsCodec a → (xs : List A) (rest : List ℕ) → AllByRecursion a.Lawful xs → read_times a.read (length xs) (flat_map a.spell xs ++ rest) ≡ Some (xs, rest)
+times_again a p [] rest lawful = refl
+times_again a p (x ∷ xs) rest lawful =
+    let regrouped : flat_map a.spell (x ∷ xs) ++ rest ≡ a.spell x ++ (flat_map a.spell xs ++ rest) = ap (λ (y : List ℕ). y ++ rest) (flat_map-cons a.spell x xs) ∙ append_assoc (a.spell x) (flat_map a.spell xs) rest in
+    ap (read_times a.read (suc (length xs))) regrouped ∙ rw (p.again x (flat_map a.spell xs ++ rest) lawful.0, times_again a p xs rest lawful.1) refl
+
+pub counted_is : {A : Type 0} (count : Codec ℕ) (a : Codec A) → IsCodec count → IsCodec a → IsCodec (counted count a)
+counted_is {A} count a num p = record {
+  takes = λ bytes xs rest fits e.
+      let one = bind_some (count.read bytes) (λ n. read_times a.read n.0 n.1) (xs, rest) e in
+      let t = num.takes bytes one.0.0 one.0.1 fits one.1 in
+      let u = times_take a p one.0.0 one.0.1 xs rest t.0.rest_fits one.2 in
+      let both = Takes-then bytes (count.spell one.0.0) one.0.1 (flat_map a.spell xs) rest t.0 u.0 in
+      (subst (λ (k : ℕ). Takes bytes (count.spell k ++ flat_map a.spell xs) rest) (sym u.1) both, (subst (λ (k : ℕ). count.Lawful k) (sym u.1) t.1, u.2));
+  again = λ xs rest lawful.
+      ap (counted count a).read (append_assoc (count.spell (length xs)) (flat_map a.spell xs) rest) ∙ rw (num.again (length xs) (flat_map a.spell xs ++ rest) lawful.0) (times_again a p xs rest lawful.1);
+}
+
+-- ---- numbers
+
+pub record IsWide (w : Width) (limit : ℕ) : Type 0 where
+  pub len : (n : ℕ) → length (to_be_bytes w n) ≡ byte_len w
+  pub back : (bytes : List ℕ) → length bytes ≡ byte_len w → IsBytes bytes → to_be_bytes w (from_be_bytes w bytes) ≡ bytes
+  pub again : (n : ℕ) → n < limit → from_be_bytes w (to_be_bytes w n) ≡ n
+  pub below : (bytes : List ℕ) → IsBytes bytes → from_be_bytes w bytes < limit
+
+pub wide16 : IsWide w16 (2 ^ 16)
+wide16 = record {
+  len = λ n. refl;
+  back = λ bytes len fits. be_bytes_2 bytes _ len fits refl;
+  again = λ n lt. from_be_bytes-to_be_bytes_2 n lt;
+  below = λ bytes fits. omega (arith, fits 0, fits 1);
+}
+
+pub wide32 : IsWide w32 (2 ^ 32)
+wide32 = record {
+  len = λ n. refl;
+  back = λ bytes len fits. be_bytes_4 bytes _ len fits refl;
+  again = λ n lt. from_be_bytes-to_be_bytes_4 n lt;
+  below = λ bytes fits. omega (arith, fits 0, fits 1, fits 2, fits 3);
+}
+
+pub wide64 : IsWide w64 (2 ^ 64)
+wide64 = record {
+  len = λ n. refl;
+  back = λ bytes len fits. be_bytes_8 bytes _ len fits refl;
+  again = λ n lt. from_be_bytes-to_be_bytes_8 n lt;
+  below = λ bytes fits. omega (arith, fits 0, fits 1, fits 2, fits 3, fits 4, fits 5, fits 6, fits 7);
+}
+
+pub number_is : (w : Width) (limit : ℕ) → IsWide w limit → IsCodec (number w limit)
+number_is w limit wide = record {
+  takes = λ bytes n rest fits e.
+      let g = guard_none (ltb (length bytes) (byte_len w)) (from_be_bytes w (take (byte_len w) bytes), drop (byte_len w) bytes) (n, rest) e in
+      let long : byte_len w ≤ length bytes = ltb-false _ _ g.0 in
+      let n-is : from_be_bytes w (take (byte_len w) bytes) ≡ n = ap (λ (p : ℕ × List ℕ). p.0) g.1 in
+      let rest-is : drop (byte_len w) bytes ≡ rest = ap (λ (p : ℕ × List ℕ). p.1) g.1 in
+      let front : to_be_bytes w n ≡ take (byte_len w) bytes = rw (← n-is) (wide.back (take (byte_len w) bytes) (omega (arith, length-take (byte_len w) bytes)) (IsBytes-take (byte_len w) bytes fits)) in
+      (record { parts = rw (front, ← rest-is) (sym (take-append-drop (byte_len w) bytes)); rest_fits = rw (← rest-is) (IsBytes-drop (byte_len w) bytes fits) }, rw (← n-is) (wide.below (take (byte_len w) bytes) (IsBytes-take (byte_len w) bytes fits)));
+  again = λ n rest lt.
+      let len = wide.len n in
+      let long : ltb (length (to_be_bytes w n ++ rest)) (byte_len w) ≡ false = le-ltb _ _ (omega (arith, length-append (to_be_bytes w n) rest)) in
+      rw (long, take_at (to_be_bytes w n) rest (byte_len w) len, drop_at (to_be_bytes w n) rest (byte_len w) len, wide.again n lt) refl;
+}
+
+pub u16_is : IsCodec u16
+unfolding u16
+u16_is = number_is w16 (2 ^ 16) wide16
+
+pub u32_is : IsCodec u32
+unfolding u32
+u32_is = number_is w32 (2 ^ 32) wide32
+
+pub u64_is : IsCodec u64
+unfolding u64
+u64_is = number_is w64 (2 ^ 64) wide64
+
+pub wide8 : IsWide w8 (2 ^ 8)
+wide8 = record {
+  len = λ n. refl;
+  back = λ bytes len fits. one_byte bytes len fits;
+  again = λ n lt. grind arith;
+  below = λ bytes fits. omega (arith, fits 0);
+} where
+  one_byte : (bytes : List ℕ) → length bytes ≡ 1 → IsBytes bytes → to_be_bytes w8 (from_be_bytes w8 bytes) ≡ bytes
+  one_byte (b ∷ []) len fits = let e : b % 256 ≡ b = omega (arith, fits 0) in rw e refl
+  one_byte [] len fits = absurd cc
+  one_byte (b ∷ c ∷ bytes) len fits = absurd (omega arith)
+
+pub u8_is : IsCodec u8
+unfolding u8
+u8_is = number_is w8 (2 ^ 8) wide8
+
+-- a number of four bytes is below 2 ^ 32
+pub u32_below : (n : ℕ) → u32.Lawful n → n < 2 ^ 32
+unfolding u32
+u32_below n h = h
+
+pub u32_lawful : (n : ℕ) → n < 2 ^ 32 → u32.Lawful n
+unfolding u32
+u32_lawful n h = h
+
+-- ---- signed numbers
+
+-- what both tests say
+pub both_true : (a b : Bool) → a && b ≡ true → (a ≡ true) × (b ≡ true)
+both_true true b e = (refl, e)
+both_true false b e = absurd cc
+
+u64_below : (n : ℕ) → u64.Lawful n → n < 2 ^ 64
+unfolding u64
+u64_below n h = h
+
+u64_lawful : (n : ℕ) → n < 2 ^ 64 → u64.Lawful n
+unfolding u64
+u64_lawful n h = h
+
+signed_fits : (z : ℤ) → IsTrue (fits_64 z) → FitsSigned w64 z
+signed_fits (pos n) h = record { sfits = ltb-true n (2 ^ 63) h }
+signed_fits (negsuc n) h = record { sfits = omega (arith, leb-true n (2 ^ 63 - 1) (both_true (leb n (2 ^ 63 - 1)) true h).0) }
+
+fits_signed : (z : ℤ) → FitsSigned w64 z → IsTrue (fits_64 z)
+fits_signed (pos n) h = lt-ltb n (2 ^ 63) h.sfits
+fits_signed (negsuc n) h = rw (le-leb n (2 ^ 63 - 1) (omega (arith, h.sfits))) refl
+
+-- a signed number from its bits, and the bytes behind it
+abbrev from_bits : ℕ × List ℕ → Option (ℤ × List ℕ)
+from_bits n = Some (cast_signed w64 n.0, n.1)
+
+pub i64_is : IsCodec i64
+unfolding i64
+i64_is = record {
+  takes = λ bytes z rest fits e.
+      let one = bind_some (u64.read bytes) from_bits (z, rest) e in
+      let t = u64_is.takes bytes one.0.0 one.0.1 fits one.1 in
+      let below = u64_below one.0.0 t.1 in
+      let back : cast_unsigned w64 (cast_signed w64 one.0.0) ≡ one.0.0 = of_z-to_z w64 one.0.0 below in
+      let spelled : Takes bytes (i64.spell (cast_signed w64 one.0.0)) one.0.1 = subst (λ (k : ℕ). Takes bytes (u64.spell k) one.0.1) (sym back) t.0 in
+      subst (λ (y : ℤ × List ℕ). Takes bytes (i64.spell y.0) y.1 × i64.Lawful y.0) (some_is (cast_signed w64 one.0.0, one.0.1) (z, rest) one.2) (spelled, fits_signed _ (sfits_to_z (Fits-of_lt {w = w64} {n = one.0.0} below)));
+  again = λ z rest lawful.
+      let fits : FitsSigned w64 z = signed_fits z lawful in
+      ap (λ (o : Option (ℕ × List ℕ)). o >>= from_bits) (u64_is.again (cast_unsigned w64 z) rest (u64_lawful _ (Fits-lt-pow (Fits-of_z {w = w64} {z = z} fits))))
+      ∙ ap (λ (y : ℤ). Some (y, rest)) (to_z-of_z w64 z fits);
+}
+
+-- ---- bytes
+
+pub bytes_by_is : (count : Codec ℕ) → IsCodec count → IsCodec (bytes_by count)
+bytes_by_is count p = record {
+  takes = λ bytes text rest fits e.
+      let one = bind_some (count.read bytes) (λ n. cond (ltb (length n.1) n.0) None (Some (take n.0 n.1, drop n.0 n.1))) (text, rest) e in
+      let n = one.0 in
+      let t = p.takes bytes n.0 n.1 fits one.1 in
+      let g = guard_none (ltb (length n.1) n.0) (take n.0 n.1, drop n.0 n.1) (text, rest) one.2 in
+      let long : n.0 ≤ length n.1 = ltb-false _ _ g.0 in
+      let len : length (take n.0 n.1) ≡ n.0 = omega (arith, length-take n.0 n.1) in
+      let second : Takes n.1 (take n.0 n.1) (drop n.0 n.1) = record { parts = sym (take-append-drop n.0 n.1); rest_fits = IsBytes-drop n.0 n.1 t.0.rest_fits } in
+      let both = Takes-then bytes (count.spell n.0) n.1 (take n.0 n.1) (drop n.0 n.1) t.0 second in
+      let whole : Takes bytes ((bytes_by count).spell (take n.0 n.1)) (drop n.0 n.1) = subst (λ (k : ℕ). Takes bytes (count.spell k ++ take n.0 n.1) (drop n.0 n.1)) (sym len) both in
+      let lawful : (bytes_by count).Lawful (take n.0 n.1) = subst (λ (k : ℕ). count.Lawful k) (sym len) t.1 in
+      subst (λ (p : List ℕ × List ℕ). Takes bytes ((bytes_by count).spell p.0) p.1 × (bytes_by count).Lawful p.0) g.1 (whole, lawful);
+  again = λ text rest lawful.
+      let long : ltb (length (text ++ rest)) (length text) ≡ false = le-ltb _ _ (omega (arith, length-append text rest)) in
+      ap (bytes_by count).read (append_assoc (count.spell (length text)) text rest) ∙
+      rw (p.again (length text) (text ++ rest) lawful, long, take_at text rest (length text) refl, drop_at text rest (length text) refl) refl;
+}
+
+pub bytes16_is : IsCodec bytes16
+unfolding bytes16
+bytes16_is = bytes_by_is u16 u16_is
+
+pub bytes32_is : IsCodec bytes32
+unfolding bytes32
+bytes32_is = bytes_by_is u32 u32_is
+
+-- ---- a value or none
+
+IsBytes-rest : (b : ℕ) (bytes : List ℕ) → IsBytes (b ∷ bytes) → IsBytes bytes
+IsBytes-rest b bytes h i = h (suc i)
+
+optional_takes : {A : Type 0} (a : Codec A) → IsCodec a → (bytes : List ℕ) (o : Option A) (rest : List ℕ) → IsBytes bytes → optional_read a.read bytes ≡ Some (o, rest)
+    → Takes bytes (optional_spell a.spell o) rest × OptionalLawful a.Lawful o
+optional_takes a p [] o rest fits e = absurd cc
+optional_takes {A} a p (zero ∷ bytes) o rest fits e =
+    subst (λ (z : Option A × List ℕ). Takes (0 ∷ bytes) (optional_spell a.spell z.0) z.1 × OptionalLawful a.Lawful z.0) (some_is (None, bytes) (o, rest) e)
+    (record { parts = refl; rest_fits = IsBytes-rest 0 bytes fits }, tt)
+optional_takes {A} a p (suc zero ∷ bytes) o rest fits e =
+    let one = bind_some (a.read bytes) (λ x. Some (Some x.0, x.1)) (o, rest) e in
+    let t = p.takes bytes one.0.0 one.0.1 (IsBytes-rest 1 bytes fits) one.1 in
+    subst (λ (z : Option A × List ℕ). Takes (1 ∷ bytes) (optional_spell a.spell z.0) z.1 × OptionalLawful a.Lawful z.0) (some_is (Some one.0.0, one.0.1) (o, rest) one.2)
+    (record { parts = ap (λ (w : List ℕ). 1 ∷ w) t.0.parts; rest_fits = t.0.rest_fits }, t.1)
+optional_takes a p (suc (suc n) ∷ bytes) o rest fits e = absurd cc
+
+optional_again : {A : Type 0} (a : Codec A) → IsCodec a → (o : Option A) (rest : List ℕ) → OptionalLawful a.Lawful o → optional_read a.read (optional_spell a.spell o ++ rest) ≡ Some (o, rest)
+optional_again a p None rest lawful = refl
+optional_again a p (Some x) rest lawful = rw (p.again x rest lawful) refl
+
+pub optional_is : {A : Type 0} (a : Codec A) → IsCodec a → IsCodec (optional a)
+optional_is a p = record { takes = optional_takes a p; again = optional_again a p }
+
+pub whole_takes : {A : Type 0} (a : Codec A) → IsCodec a → (bytes : List ℕ) (x : A) → IsBytes bytes → whole a bytes ≡ Some x → (bytes ≡ a.spell x) × a.Lawful x
+whole_takes {A} a p bytes x fits e =
+    let one = bind_some (a.read bytes) (λ y. cond (eqb (length y.1) 0) (Some y.0) None) x e in
+    let g = guard_some (eqb (length one.0.1) 0) one.0.0 x one.2 in
+    let t = p.takes bytes one.0.0 one.0.1 fits one.1 in
+    let nothing : one.0.1 ≡ [] = nil_from_length one.0.1 (eqb-true _ _ g.0) in
+    subst (λ (y : A). (bytes ≡ a.spell y) × a.Lawful y) g.1 (t.0.parts ∙ ap (λ (r : List ℕ). a.spell one.0.0 ++ r) nothing ∙ append-nil (a.spell one.0.0), t.1)
+
+pub whole_again : {A : Type 0} (a : Codec A) → IsCodec a → (x : A) → a.Lawful x → whole a (a.spell x) ≡ Some x
+whole_again {A} a p x lawful =
+    let read : a.read (a.spell x) ≡ Some (x, []) = ap a.read (sym (append-nil (a.spell x))) ∙ p.again x [] lawful in
+    rw read refl
+
+-- the parts that body_of gives
+pub record Parted (limit : ℕ) (bytes body rest : List ℕ) : Type 0 where
+  pub taken : Takes bytes (u32.spell (length body) ++ body) rest
+  pub body_fits : IsBytes body
+  pub short : length body ≤ limit
+
+pub body_parted : (limit : ℕ) (bytes body rest : List ℕ) → IsBytes bytes → body_of limit bytes ≡ Some (body, rest) → Parted limit bytes body rest
+unfolding body_of
+body_parted limit bytes body rest fits e =
+    let one = bind_some (u32.read bytes) (λ n. cond (leb n.0 limit && leb n.0 (length n.1)) (Some (take n.0 n.1, drop n.0 n.1)) None) (body, rest) e in
+    let n = one.0 in
+    let t = u32_is.takes bytes n.0 n.1 fits one.1 in
+    let g = guard_some (leb n.0 limit && leb n.0 (length n.1)) (take n.0 n.1, drop n.0 n.1) (body, rest) one.2 in
+    let b = both_true (leb n.0 limit) (leb n.0 (length n.1)) g.0 in
+    let under : n.0 ≤ limit = leb-true _ _ b.0 in
+    let long : n.0 ≤ length n.1 = leb-true _ _ b.1 in
+    let len : length (take n.0 n.1) ≡ n.0 = omega (arith, length-take n.0 n.1) in
+    let second : Takes n.1 (take n.0 n.1) (drop n.0 n.1) = record { parts = sym (take-append-drop n.0 n.1); rest_fits = IsBytes-drop n.0 n.1 t.0.rest_fits } in
+    let both = Takes-then bytes (u32.spell n.0) n.1 (take n.0 n.1) (drop n.0 n.1) t.0 second in
+    let spelled : Takes bytes (u32.spell (length (take n.0 n.1)) ++ take n.0 n.1) (drop n.0 n.1) = subst (λ (k : ℕ). Takes bytes (u32.spell k ++ take n.0 n.1) (drop n.0 n.1)) (sym len) both in
+    subst (λ (z : List ℕ × List ℕ). Parted limit bytes z.0 z.1) g.1 (record { taken = spelled; body_fits = IsBytes-take n.0 n.1 t.0.rest_fits; short = omega (arith, len, under) })
+
+pub sized_is : {A : Type 0} (limit : ℕ) (a : Codec A) → limit < 2 ^ 32 → IsCodec a → IsCodec (sized limit a)
+unfolding body_of
+sized_is {A} limit a small p = record {
+  takes = λ bytes x rest fits e.
+      let one = bind_some (body_of limit bytes) (λ t. whole a t.0 >>= λ y. Some (y, t.1)) (x, rest) e in
+      let parted = body_parted limit bytes one.0.0 one.0.1 fits one.1 in
+      let two = bind_some (whole a one.0.0) (λ y. Some (y, one.0.1)) (x, rest) one.2 in
+      let w = whole_takes a p one.0.0 two.0 parted.body_fits two.1 in
+      let spelled : Takes bytes ((sized limit a).spell two.0) one.0.1 = subst (λ (t : List ℕ). Takes bytes (u32.spell (length t) ++ t) one.0.1) w.0 parted.taken in
+      subst (λ (z : A × List ℕ). Takes bytes ((sized limit a).spell z.0) z.1 × (sized limit a).Lawful z.0) (some_is (two.0, one.0.1) (x, rest) two.2) (spelled, (w.1, subst (λ (t : List ℕ). length t ≤ limit) w.0 parted.short));
+  again = λ x rest lawful.
+      let text = a.spell x in
+      let tests : leb (length text) limit && leb (length text) (length (text ++ rest)) ≡ true = rw (le-leb (length text) limit lawful.1, le-leb (length text) (length (text ++ rest)) (omega (arith, length-append text rest))) refl in
+      ap (sized limit a).read (append_assoc (u32.spell (length text)) text rest) ∙
+      rw (u32_is.again (length text) (text ++ rest) (u32_lawful _ (omega (arith, lawful.1))), tests, take_at text rest (length text) refl, drop_at text rest (length text) refl, whole_again a p x lawful.0) refl;
+}

@@ -1,0 +1,4 @@
+pub mod Codecs
+pub mod KeyLemmas
+pub mod KeyLaws
+pub mod LogLaws

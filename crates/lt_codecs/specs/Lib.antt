@@ -1,0 +1,2 @@
+-- Formats as values: how a thing is spelled, read and lawful.
+pub mod Codec

@@ -1,0 +1,31 @@
+//! The laws of keys and of the log's bytes, and the codecs that every binary format is built from.
+//!
+//! Each function here has an empty body: its contract is a law over the definitions, for all values.
+#![tactic(auto)]
+
+ghost use Rattle.lt_model.specs.Key.{AreKeysPrefixFree, KeepsOrder};
+ghost use Rattle.lt_model.specs.Log.{AreValuesPrefixFree, IsPrefixFree};
+
+/// For keys of one table the order of the bytes is the order of the parts.
+pub fn keys_keep_order()
+    ensures { KeepsOrder }
+{
+}
+
+/// No key's bytes begin another's of its table.
+pub fn keys_are_prefix_free()
+    ensures { AreKeysPrefixFree }
+{
+}
+
+/// No value's bytes begin another's.
+pub fn values_are_prefix_free()
+    ensures { AreValuesPrefixFree }
+{
+}
+
+/// No frame begins another of its format.
+pub fn frames_are_prefix_free()
+    ensures { IsPrefixFree }
+{
+}

@@ -1,0 +1,51 @@
+-- What the code's types stand for in the definitions.
+use Rattle.std.specs.Prelude.{ℕ, List, map}
+use Rattle.lt_model.specs.Key as keys
+use Rattle.lt_model.specs.Value as model
+use Rattle.lt_model.specs.Kind as kinds
+use Rattle.lt_core.specs.declared.value.Value.{Value, fold-Value}
+use Rattle.lt_core.specs.declared.value.Value.TheOpen.{Value-F}
+use Rattle.lt_core.specs.declared.kind.Kind.{Kind, fold-Kind}
+use Rattle.lt_core.specs.declared.kind.Kind.TheOpen.{Kind-F}
+use Rattle.lt_core.specs.declared.key.KeyPart.{KeyPart}
+use Rattle.lt_core.specs.declared.key.KeyPart.TheVariants as key_part
+use Rattle.lt_core.specs.declared.key.Range.{Range}
+
+-- one level, with each value inside already seen
+abbrev pub value_step : Value-F model.Value → model.Value
+value_step Value-F.Null = model.null_value
+value_step (Value-F.Bool b) = model.bool_value b
+value_step (Value-F.Int z) = model.int_value z
+value_step (Value-F.Text t) = model.text_value t
+value_step (Value-F.Bytes b) = model.bytes_value b
+value_step (Value-F.Struct fs) = model.struct_value (model.fields_of fs)
+
+abbrev pub view_value : Value → model.Value
+view_value = fold-Value model.Value value_step
+
+abbrev pub view_setting : ℕ × Value → ℕ × model.Value
+view_setting s = (s.0, view_value s.1)
+
+abbrev pub view_settings : List (ℕ × Value) → List (ℕ × model.Value)
+view_settings ss = map view_setting ss
+
+abbrev pub view_row : List Value → List model.Value
+view_row vs = map view_value vs
+
+abbrev pub kind_step : Kind-F kinds.Kind → kinds.Kind
+kind_step (Kind-F.Plain r) = kinds.plain r
+kind_step (Kind-F.Enum names) = kinds.enumeration names
+kind_step (Kind-F.Struct ks) = kinds.structured (kinds.field_kinds_of ks)
+
+abbrev pub view_kind : Kind → kinds.Kind
+view_kind = fold-Kind kinds.Kind kind_step
+
+abbrev pub view_part : KeyPart → keys.KeyPart
+view_part (key_part.Int z) = keys.int_part z
+view_part (key_part.Text t) = keys.text_part t
+
+abbrev pub view_parts : List KeyPart → List keys.KeyPart
+view_parts ps = map view_part ps
+
+abbrev pub view_range : Range → keys.Range
+view_range r = record { low = r.low; high = r.high }

@@ -1,0 +1,9 @@
+pub mod ValueChecks
+pub mod LogChecks
+pub mod MachineChecks
+pub mod CompactionChecks
+pub mod TextChecks
+pub mod LaterChecks
+pub mod FreshChecks
+pub mod ReopenChecks
+pub mod PointChecks
