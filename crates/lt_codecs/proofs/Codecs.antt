@@ -1,5 +1,5 @@
 -- The laws of a format, and that each way to build one keeps them.
-use Rattle.std.proofs.Common.{◌≡◌, ℕ, ℤ, pos, negsuc, ◌-◌, FitsSigned, zero, suc, ◌+◌, ◌^◌, ◌%◌, ◌<◌, ◌≤◌, Bool, true, false, cond, ltb, leb, eqb, List, [], ◌∷◌, ◌++◌, length, get_or, take, drop, Option, Some, None, refl, sym, ap, subst, ◌∙◌, append_assoc, arith, inl, inr}
+use Rattle.std.proofs.Common.{◌≡◌, ℕ, ℤ, pos, negsuc, ◌-◌, FitsSigned, zero, suc, ◌+◌, ◌^◌, ◌%◌, ◌<◌, ◌≤◌, Bool, true, false, cond, ltb, leb, eqb, List, [], ◌∷◌, ◌++◌, length, take, drop, Option, Some, None, refl, sym, ap, subst, ◌∙◌, append_assoc, arith, inl, inr}
 use Rattle.std.specs.Prelude.{IsTrue, ◌&&◌}
 use Rattle.std.specs.List.{flat_map, AllByRecursion}
 use Rattle.std.specs.Int.{Width, w8, w16, w32, w64, byte_len, cast_signed, cast_unsigned, from_be_bytes, to_be_bytes}
@@ -9,11 +9,10 @@ use Rattle.std.proofs.lemmas.List.Concat.{flat_map-cons}
 use Rattle.std.proofs.lemmas.Nat.{be_bytes_2, be_bytes_4, be_bytes_8, from_be_bytes-to_be_bytes_2, from_be_bytes-to_be_bytes_4, from_be_bytes-to_be_bytes_8}
 use Rattle.std.proofs.lemmas.Int.{of_z-to_z, to_z-of_z}
 use Rattle.std.proofs.Math.Facts.{Fits-of_z, sfits_to_z, Fits-of_lt, Fits-lt-pow}
+use Rattle.std.specs.Str.{bytes_eq, is_utf8}
+use Rattle.std.proofs.lemmas.Slice.Eq.{bytes_eq-Decides}
 use Rattle.lt_model.specs.Value.{fits_64}
-use Rattle.lt_codecs.specs.Codec.{Codec, ◌>>=◌, number, ◌then◌, u8, u16, u32, u64, mapped, where_true, read_times, counted, i64, bytes_by, bytes16, bytes32, optional, optional_read, optional_spell, OptionalLawful, whole, sized, body_of}
-
-abbrev pub IsBytes : List ℕ → Type 0
-IsBytes bytes = (i : ℕ) → get_or bytes i 0 < 256
+use Rattle.lt_codecs.specs.Codec.{IsBytes, Codec, empty, nothing, literal, then_by, stated, on_tag, tagged, text32, ◌>>=◌, number, ◌then◌, u8, u16, u32, u64, mapped, where_true, read_times, counted, i64, bytes_by, bytes16, bytes32, optional, optional_behind, optional_spell, OptionalLawful, whole, sized, body_of}
 
 pub IsBytes-drop : (n : ℕ) (bytes : List ℕ) → IsBytes bytes → IsBytes (drop n bytes)
 IsBytes-drop n bytes h i = rw get_or-drop (h (n + i))
@@ -50,7 +49,7 @@ pub guard_none : {A : Type 0} (b : Bool) (x y : A) → cond b None (Some x) ≡ 
 guard_none true x y e = absurd cc
 guard_none false x y e = (refl, cc)
 
-abbrev some : {A : Type 0} → A → Option A
+abbrev pub some : {A : Type 0} → A → Option A
 some x = Some x
 
 pub some_is : {A : Type 0} (x y : A) → some x ≡ some y → x ≡ y
@@ -289,31 +288,6 @@ pub bytes32_is : IsCodec bytes32
 unfolding bytes32
 bytes32_is = bytes_by_is u32 u32_is
 
--- ---- a value or none
-
-IsBytes-rest : (b : ℕ) (bytes : List ℕ) → IsBytes (b ∷ bytes) → IsBytes bytes
-IsBytes-rest b bytes h i = h (suc i)
-
-optional_takes : {A : Type 0} (a : Codec A) → IsCodec a → (bytes : List ℕ) (o : Option A) (rest : List ℕ) → IsBytes bytes → optional_read a.read bytes ≡ Some (o, rest)
-    → Takes bytes (optional_spell a.spell o) rest × OptionalLawful a.Lawful o
-optional_takes a p [] o rest fits e = absurd cc
-optional_takes {A} a p (zero ∷ bytes) o rest fits e =
-    subst (λ (z : Option A × List ℕ). Takes (0 ∷ bytes) (optional_spell a.spell z.0) z.1 × OptionalLawful a.Lawful z.0) (some_is (None, bytes) (o, rest) e)
-    (record { parts = refl; rest_fits = IsBytes-rest 0 bytes fits }, tt)
-optional_takes {A} a p (suc zero ∷ bytes) o rest fits e =
-    let one = bind_some (a.read bytes) (λ x. Some (Some x.0, x.1)) (o, rest) e in
-    let t = p.takes bytes one.0.0 one.0.1 (IsBytes-rest 1 bytes fits) one.1 in
-    subst (λ (z : Option A × List ℕ). Takes (1 ∷ bytes) (optional_spell a.spell z.0) z.1 × OptionalLawful a.Lawful z.0) (some_is (Some one.0.0, one.0.1) (o, rest) one.2)
-    (record { parts = ap (λ (w : List ℕ). 1 ∷ w) t.0.parts; rest_fits = t.0.rest_fits }, t.1)
-optional_takes a p (suc (suc n) ∷ bytes) o rest fits e = absurd cc
-
-optional_again : {A : Type 0} (a : Codec A) → IsCodec a → (o : Option A) (rest : List ℕ) → OptionalLawful a.Lawful o → optional_read a.read (optional_spell a.spell o ++ rest) ≡ Some (o, rest)
-optional_again a p None rest lawful = refl
-optional_again a p (Some x) rest lawful = rw (p.again x rest lawful) refl
-
-pub optional_is : {A : Type 0} (a : Codec A) → IsCodec a → IsCodec (optional a)
-optional_is a p = record { takes = optional_takes a p; again = optional_again a p }
-
 pub whole_takes : {A : Type 0} (a : Codec A) → IsCodec a → (bytes : List ℕ) (x : A) → IsBytes bytes → whole a bytes ≡ Some x → (bytes ≡ a.spell x) × a.Lawful x
 whole_takes {A} a p bytes x fits e =
     let one = bind_some (a.read bytes) (λ y. cond (eqb (length y.1) 0) (Some y.0) None) x e in
@@ -365,3 +339,161 @@ sized_is {A} limit a small p = record {
       ap (sized limit a).read (append_assoc (u32.spell (length text)) text rest) ∙
       rw (u32_is.again (length text) (text ++ rest) (u32_lawful _ (omega (arith, lawful.1))), tests, take_at text rest (length text) refl, drop_at text rest (length text) refl, whole_again a p x lawful.0) refl;
 }
+
+-- ---- tags, and other ways to build
+
+pub empty_is : IsCodec empty
+empty_is = record {
+  takes = λ bytes x rest fits e.
+      subst (λ (z : Unit {0} × List ℕ). Takes bytes [] z.1 × Unit {0}) (some_is (tt, bytes) (x, rest) e) (record { parts = refl; rest_fits = fits }, tt);
+  again = λ x rest lawful. refl;
+}
+
+pub nothing_is : {A : Type 0} → IsCodec (nothing {A = A})
+nothing_is = record { takes = λ bytes x rest fits e. absurd cc; again = λ x rest lawful. absurd lawful }
+
+pub then_by_is : {A B : Type 0} (a : Codec A) (b : A → Codec B) → IsCodec a → ((x : A) → a.Lawful x → IsCodec (b x)) → IsCodec (then_by a b)
+then_by_is {A} {B} a b p q = record {
+  takes = λ bytes x rest fits e.
+      let one = bind_some (a.read bytes) (λ x. (b x.0).read x.1 >>= λ y. Some ((x.0, y.0), y.1)) (x, rest) e in
+      let two = bind_some ((b one.0.0).read one.0.1) (λ y. Some ((one.0.0, y.0), y.1)) (x, rest) one.2 in
+      let t = p.takes bytes one.0.0 one.0.1 fits one.1 in
+      let second = q one.0.0 t.1 in
+      let u = second.takes one.0.1 two.0.0 two.0.1 t.0.rest_fits two.1 in
+      let both = Takes-then bytes (a.spell one.0.0) one.0.1 ((b one.0.0).spell two.0.0) two.0.1 t.0 u.0 in
+      let made : (A × B) × List ℕ = ((one.0.0, two.0.0), two.0.1) in
+      subst (λ (z : (A × B) × List ℕ). Takes bytes (a.spell z.0.0 ++ (b z.0.0).spell z.0.1) z.1 × (a.Lawful z.0.0 × (b z.0.0).Lawful z.0.1)) (some_is made (x, rest) two.2) (both, (t.1, u.1));
+  again = λ x rest lawful.
+      let second = q x.0 lawful.0 in
+      ap (then_by a b).read (append_assoc (a.spell x.0) ((b x.0).spell x.1) rest) ∙ rw (p.again x.0 ((b x.0).spell x.1 ++ rest) lawful.0, second.again x.1 rest lawful.1) refl;
+}
+
+-- a grammar says of a type what a codec says of another one
+pub record States {A B : Type 0} (to : B → A) (spell : A → List ℕ) (Lawful : A → Type 0) (b : Codec B) : Type 0 where
+  pub made : (y : B) → b.Lawful y → Lawful (to y) × (b.spell y ≡ spell (to y))
+  pub comes : (x : A) → Lawful x → (y : B) × (to y ≡ x) × b.Lawful y
+
+abbrev pub retyped : {A B : Type 0} → (B → A) → B × List ℕ → Option (A × List ℕ)
+retyped to y = Some (to y.0, y.1)
+
+pub stated_is : {A B : Type 0} (to : B → A) (spell : A → List ℕ) (Lawful : A → Type 0) (b : Codec B) → States to spell Lawful b → IsCodec b → IsCodec (stated to spell Lawful b)
+stated_is {A} {B} to spell Lawful b states p = record {
+  takes = λ bytes x rest fits e.
+      let one = bind_some (b.read bytes) (retyped to) (x, rest) e in
+      let t = p.takes bytes one.0.0 one.0.1 fits one.1 in
+      let s = states.made one.0.0 t.1 in
+      subst (λ (z : A × List ℕ). Takes bytes (spell z.0) z.1 × Lawful z.0) (some_is (to one.0.0, one.0.1) (x, rest) one.2) (subst (λ (w : List ℕ). Takes bytes w one.0.1) s.1 t.0, s.0);
+  again = λ x rest lawful.
+      let c = states.comes x lawful in
+      let y = c.0 in
+      let spells : spell x ≡ b.spell y = ap spell (sym c.1) ∙ sym (states.made y c.2).1 in
+      ap (λ (w : List ℕ). b.read (w ++ rest) >>= retyped to) spells
+      ∙ ap (λ (o : Option (B × List ℕ)). o >>= retyped to) (p.again y rest c.2)
+      ∙ ap (λ (z : A). Some (z, rest)) c.1;
+}
+
+-- a tag of one byte
+pub u8_front : (bytes : List ℕ) (tag : ℕ) (rest : List ℕ) → IsBytes bytes → u8.read bytes ≡ Some (tag, rest) → Takes bytes (tag ∷ []) rest × (tag < 256)
+unfolding u8
+u8_front bytes tag rest fits e =
+    let t = u8_is.takes bytes tag rest fits e in
+    let same : tag % 256 ≡ tag = omega (arith, t.1) in
+    (subst (λ (b : ℕ). Takes bytes (b ∷ []) rest) same t.0, t.1)
+
+pub u8_again : (tag : ℕ) (rest : List ℕ) → tag < 256 → u8.read (tag ∷ rest) ≡ Some (tag, rest)
+unfolding u8
+u8_again tag rest h =
+    let same : tag % 256 ≡ tag = omega (arith, h) in
+    subst (λ (b : ℕ). u8.read (b ∷ rest) ≡ Some (tag, rest)) same (u8_is.again tag rest h)
+
+-- what stands behind a tag was spelled with it
+pub record IsBehind {A : Type 0} (spell : A → List ℕ) (Lawful : A → Type 0) (tag : ℕ) (bytes : List ℕ) (x : A) (rest : List ℕ) : Type 0 where
+  pub text : List ℕ
+  pub spells : spell x ≡ tag ∷ text
+  pub taken : Takes bytes text rest
+  pub lawful : Lawful x
+
+-- a lawful value is read again behind its tag
+pub record IsAgain {A : Type 0} (spell : A → List ℕ) (read_behind : ℕ → List ℕ → Option (A × List ℕ)) (x : A) (rest : List ℕ) : Type 0 where
+  pub tag : ℕ
+  pub text : List ℕ
+  pub small : tag < 256
+  pub spells : spell x ≡ tag ∷ text
+  pub reads : read_behind tag (text ++ rest) ≡ Some (x, rest)
+
+pub record IsTagged {A : Type 0} (spell : A → List ℕ) (Lawful : A → Type 0) (read_behind : ℕ → List ℕ → Option (A × List ℕ)) : Type 0 where
+  pub takes : (tag : ℕ) (bytes : List ℕ) (x : A) (rest : List ℕ) → IsBytes bytes → read_behind tag bytes ≡ Some (x, rest) → IsBehind spell Lawful tag bytes x rest
+  pub again : (x : A) (rest : List ℕ) → Lawful x → IsAgain spell read_behind x rest
+
+pub tagged_is : {A : Type 0} (spell : A → List ℕ) (Lawful : A → Type 0) (read_behind : ℕ → List ℕ → Option (A × List ℕ)) → IsTagged spell Lawful read_behind → IsCodec (tagged spell Lawful read_behind)
+tagged_is {A} spell Lawful read_behind p = record {
+  takes = λ bytes x rest fits e.
+      let one = bind_some (u8.read bytes) (λ tag. read_behind tag.0 tag.1) (x, rest) e in
+      let t = u8_front bytes one.0.0 one.0.1 fits one.1 in
+      let b = p.takes one.0.0 one.0.1 x rest t.0.rest_fits one.2 in
+      let both = Takes-then bytes (one.0.0 ∷ []) one.0.1 b.text rest t.0 b.taken in
+      (subst (λ (w : List ℕ). Takes bytes w rest) (sym b.spells) both, b.lawful);
+  again = λ x rest lawful.
+      let a = p.again x rest lawful in
+      ap (λ (w : List ℕ). (tagged spell Lawful read_behind).read (w ++ rest)) a.spells
+      ∙ ap (λ (o : Option (ℕ × List ℕ)). o >>= λ t. read_behind t.0 t.1) (u8_again a.tag (a.text ++ rest) a.small)
+      ∙ a.reads;
+}
+
+-- one tag of a choice: what is read by it, or by the others
+pub on_tag_takes : {A B : Type 0} (k tag : ℕ) (b : Codec B) (to : B → A) (bytes : List ℕ) (others : Option (A × List ℕ)) (x : A) (rest : List ℕ) (P : A → List ℕ → Type 0) → IsCodec b → IsBytes bytes
+    → ((y : B) (after : List ℕ) → k ≡ tag → Takes bytes (b.spell y) after → b.Lawful y → P (to y) after)
+    → (others ≡ Some (x, rest) → P x rest) → on_tag k tag b to bytes others ≡ Some (x, rest) → P x rest
+on_tag_takes {A} {B} k tag b to bytes others x rest P p fits here there e = by_test (eqb tag k) refl e
+  where
+    by_test : (t : Bool) → eqb tag k ≡ t → cond t (b.read bytes >>= retyped to) others ≡ Some (x, rest) → P x rest
+    by_test true is e =
+        let one = bind_some (b.read bytes) (retyped to) (x, rest) e in
+        let t = p.takes bytes one.0.0 one.0.1 fits one.1 in
+        subst (λ (z : A × List ℕ). P z.0 z.1) (some_is (to one.0.0, one.0.1) (x, rest) one.2) (here one.0.0 one.0.1 (sym (eqb-true tag k is)) t.0 t.1)
+    by_test false is e = there e
+
+-- what a codec reads again, it reads again for another type
+pub retyped_again : {A B : Type 0} (b : Codec B) (to : B → A) (y : B) (rest : List ℕ) → IsCodec b → b.Lawful y → (b.read (b.spell y ++ rest) >>= retyped to) ≡ Some (to y, rest)
+retyped_again {A} {B} b to y rest p lawful = ap (λ (o : Option (B × List ℕ)). o >>= retyped to) (p.again y rest lawful)
+
+-- a value or none
+optional_tagged : {A : Type 0} (a : Codec A) → IsCodec a → IsTagged (optional_spell a.spell) (OptionalLawful a.Lawful) (optional_behind a)
+optional_tagged {A} a p = record {
+  takes = λ tag bytes x rest fits e.
+      let P = λ (o : Option A) (r : List ℕ). IsBehind (optional_spell a.spell) (OptionalLawful a.Lawful) tag bytes o r in
+      on_tag_takes 0 tag empty (λ _. None) bytes _ x rest P empty_is fits (λ y after is t l. record { text = []; spells = ap (λ (k : ℕ). k ∷ []) is; taken = t; lawful = tt })
+      (on_tag_takes 1 tag a (λ y. Some y) bytes _ x rest P p fits (λ y after is t l. record { text = a.spell y; spells = ap (λ (k : ℕ). k ∷ a.spell y) is; taken = t; lawful = l })
+      (λ none. absurd cc)) e;
+  again = again_of;
+} where
+  again_of : (x : Option A) (rest : List ℕ) → OptionalLawful a.Lawful x → IsAgain (optional_spell a.spell) (optional_behind a) x rest
+  again_of None rest h = record { tag = 0; text = []; small = omega arith; spells = refl; reads = refl }
+  again_of (Some x) rest h = record { tag = 1; text = a.spell x; small = omega arith; spells = refl; reads = retyped_again a (λ y. Some y) x rest p h }
+
+pub optional_is : {A : Type 0} (a : Codec A) → IsCodec a → IsCodec (optional a)
+optional_is a p = tagged_is (optional_spell a.spell) (OptionalLawful a.Lawful) (optional_behind a) (optional_tagged a p)
+
+pub text32_is : IsCodec text32
+unfolding text32
+text32_is = where_true_is is_utf8 bytes32 bytes32_is
+
+pub literal_is : (text : List ℕ) → IsCodec (literal text)
+literal_is text = record {
+  takes = λ bytes x rest fits e.
+      let n = length text in
+      let tail : Option (Unit {0} × List ℕ) = cond (bytes_eq (take n bytes) text) (Some (tt, drop n bytes)) None in
+      let g = guard_else (ltb (length bytes) n) tail (x, rest) e in
+      let same = guard_some (bytes_eq (take n bytes) text) (tt, drop n bytes) (x, rest) g.1 in
+      let front : take n bytes ≡ text = (bytes_eq-Decides (take n bytes) text).0 same.0 in
+      let taken : Takes bytes text (drop n bytes) = record { parts = sym (take-append-drop n bytes) ∙ ap (λ (t : List ℕ). t ++ drop n bytes) front; rest_fits = IsBytes-drop n bytes fits } in
+      (subst (λ (z : Unit {0} × List ℕ). Takes bytes text z.1) same.1 taken, tt);
+  again = λ x rest lawful.
+      let n = length text in
+      let long : ltb (length (text ++ rest)) n ≡ false = le-ltb _ _ (omega (arith, length-append text rest)) in
+      let same : bytes_eq text text ≡ true = (bytes_eq-Decides text text).1 refl in
+      rw (long, take_at text rest n refl, drop_at text rest n refl, same) refl;
+} where
+  guard_else : {A : Type 0} (b : Bool) (o : Option A) (y : A) → cond b None o ≡ Some y → (b ≡ false) × (o ≡ Some y)
+  guard_else true o y e = absurd cc
+  guard_else false o y e = (refl, e)

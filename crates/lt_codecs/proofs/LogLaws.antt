@@ -1,6 +1,6 @@
 -- Values, changes and frames of logs: none begins another.
 use Rattle.std.proofs.Common.{◌≤◌, eqb-true, subst, [], flat_map, leb-true, map, Option, Some, None, ◌≡◌, ℕ, ◌+◌, ◌-◌, ◌^◌, ◌<◌, Bool, true, false, List, ◌∷◌, ◌++◌, length, refl, sym, ap, ◌∙◌, append_assoc, arith, ltb-true}
-use Rattle.std.specs.Prelude.{if◌then◌else◌, is_some, ◌==◌, nat_le, IsTrue, nat_lt, ◌&&◌}
+use Rattle.std.specs.Prelude.{if◌then◌else◌, is_some, ◌==◌, nat_le, IsTrue, nat_lt, not, ◌&&◌, ◌||◌}
 use Rattle.std.specs.Str.{is_utf8}
 use Rattle.lt_model.specs.Value.{Fields, Value, are_fields, bool_value, bytes_value, field_list, field_value, fits_64, int_value, is_number, is_timestamp, is_value, rises_above, no_fields, null_value, struct_value, text_value}
 use Rattle.std.specs.List.{list_all}
@@ -18,18 +18,18 @@ use Rattle.lt_codecs.proofs.Codecs.{spell_apart, u16_is, u32_is, u64_is, i64_is,
 abbrev Apart : {A : Type 0} → (A → List ℕ) → (A → Type 0) → Type 0
 Apart {A} spell Lawful = (a b : A) (x y : List ℕ) → Lawful a → Lawful b → spell a ++ x ≡ spell b ++ y → (a ≡ b) × (x ≡ y)
 
-first : (a b : Bool) → IsTrue (a && b) → IsTrue a
+pub first : (a b : Bool) → IsTrue (a && b) → IsTrue a
 first true b h = refl
 first false b h = h
 
-second : (a b : Bool) → IsTrue (a && b) → IsTrue b
+pub second : (a b : Bool) → IsTrue (a && b) → IsTrue b
 second true b h = h
 second false b h = absurd cc
 
-heads : (a b : ℕ) (x y : List ℕ) → a ∷ x ≡ b ∷ y → a ≡ b
+pub heads : (a b : ℕ) (x y : List ℕ) → a ∷ x ≡ b ∷ y → a ≡ b
 heads a b x y e = cc
 
-tails : (a b : ℕ) (x y : List ℕ) → a ∷ x ≡ b ∷ y → x ≡ y
+pub tails : (a b : ℕ) (x y : List ℕ) → a ∷ x ≡ b ∷ y → x ≡ y
 tails a b x y e = cc
 
 regroup : (s t u v x y : List ℕ) → (s ++ t) ++ x ≡ (u ++ v) ++ y → s ++ (t ++ x) ≡ u ++ (v ++ y)
@@ -65,17 +65,17 @@ bits_apart false false e = refl
 bits_apart true false e = absurd (omega (arith, e))
 bits_apart false true e = absurd (omega (arith, e))
 
-number_below : (n : ℕ) → IsTrue (is_number n) → n < 2 ^ 16
+pub number_below : (n : ℕ) → IsTrue (is_number n) → n < 2 ^ 16
 number_below n h = ltb-true n (2 ^ 16) (second (nat_lt 0 n) _ h)
 
 -- what the first field of lawful fields is, and the others
-record IsFieldOf (d low n : ℕ) (v : Value) (fs : Fields) : Type 0 where
-  number : n < 2 ^ 16
-  up : low < n
-  value : IsTrue (is_value d v)
-  others : IsTrue (are_fields d n fs)
+pub record IsFieldOf (d low n : ℕ) (v : Value) (fs : Fields) : Type 0 where
+  pub number : n < 2 ^ 16
+  pub up : low < n
+  pub value : IsTrue (is_value d v)
+  pub others : IsTrue (are_fields d n fs)
 
-field_is : (d low n : ℕ) (v : Value) (fs : Fields) → IsTrue (are_fields d low (field_value n v fs)) → IsFieldOf d low n v fs
+pub field_is : (d low n : ℕ) (v : Value) (fs : Fields) → IsTrue (are_fields d low (field_value n v fs)) → IsFieldOf d low n v fs
 field_is d low n v fs h =
     let p = first (is_number n && nat_lt low n && is_value d v) _ h in
     let q = first (is_number n && nat_lt low n) _ p in
@@ -87,7 +87,7 @@ field_is d low n v fs h =
     }
 
 -- rising numbers below 2^16 are fewer
-few_fields : (d low : ℕ) (fs : Fields) → low < 2 ^ 16 → IsTrue (are_fields d low fs) → length (field_list fs) + low < 2 ^ 16
+pub few_fields : (d low : ℕ) (fs : Fields) → low < 2 ^ 16 → IsTrue (are_fields d low fs) → length (field_list fs) + low < 2 ^ 16
 few_fields d low no_fields l h = omega (arith, l)
 few_fields d low (field_value n v fs) l h =
     let f = field_is d low n v fs h in
@@ -172,7 +172,7 @@ part_apart (text_part a) (text_part b) x y h i e =
 part_apart (int_part a) (text_part b) x y h i e = absurd cc
 part_apart (text_part a) (int_part b) x y h i e = absurd cc
 
-abbrev is_setting : ℕ × Value → Bool
+abbrev pub is_setting : ℕ × Value → Bool
 is_setting s = is_number s.0 && is_log_value s.1
 
 setting_apart : Apart setting_bytes (λ s. IsTrue (is_setting s))
@@ -188,22 +188,33 @@ ops_apart ops.Delete ops.Delete e = refl
 ops_apart o p e = absurd (omega (arith, e))
 
 -- rising numbers below 2^16 are fewer
-few_settings : (low : ℕ) (ss : List (ℕ × Value)) → low < 2 ^ 16 → IsTrue (rises_above low (map (λ s. s.0) ss)) → IsTrue (list_all is_setting ss) → length ss + low < 2 ^ 16
+pub few_settings : (low : ℕ) (ss : List (ℕ × Value)) → low < 2 ^ 16 → IsTrue (rises_above low (map (λ s. s.0) ss)) → IsTrue (list_all is_setting ss) → length ss + low < 2 ^ 16
 few_settings low [] l h i = omega (arith, l)
 few_settings low (s ∷ ss) l h i =
     let up = ltb-true low s.0 (first (nat_lt low s.0) _ h) in
     let small = number_below s.0 (first (is_number s.0) _ (first (is_setting s) _ i)) in
     omega (arith, up, few_settings s.0 ss small (second (nat_lt low s.0) _ h) (second (is_setting s) _ i))
 
-record Fits (c : Change) : Type 0 where
-  ts : c.ts < 2 ^ 64
-  table : c.table < 2 ^ 32
-  version : c.version < 2 ^ 32
-  parts : IsTrue (list_all is_log_part c.key)
-  few : length c.set < 2 ^ 16
-  set : IsTrue (list_all is_setting c.set)
+pub record Fits (c : Change) : Type 0 where
+  pub moment : IsTrue (is_timestamp c.ts)
+  pub ts : c.ts < 2 ^ 64
+  pub number : IsTrue (is_number c.table)
+  pub table : c.table < 2 ^ 32
+  pub versions : IsTrue (nat_lt 0 c.version && nat_le c.version 256)
+  pub version : c.version < 2 ^ 32
+  pub some_parts : IsTrue (nat_lt 0 (length c.key) && nat_le (length c.key) 8)
+  pub parts : IsTrue (list_all is_log_part c.key)
+  pub short_key : IsTrue (nat_le (length (change_key c)) max_key)
+  pub rises : IsTrue (rises_above 0 (map (λ s. s.0) c.set))
+  pub few : length c.set < 2 ^ 16
+  pub set : IsTrue (list_all is_setting c.set)
+  pub bare : IsTrue (not (op_byte c.op == 3) || length c.set == 0)
 
-change_fits : (c : Change) → IsTrue (is_change c) → Fits c
+pub together : (a b : Bool) → IsTrue a → IsTrue b → IsTrue (a && b)
+together true b h i = i
+together false b h i = h
+
+pub change_fits : (c : Change) → IsTrue (is_change c) → Fits c
 change_fits c h =
     let a1 = is_timestamp c.ts in
     let a2 = a1 && is_number c.table in
@@ -225,14 +236,25 @@ change_fits c h =
     let h3 : IsTrue a3 = first a3 _ h4 in
     let h2 : IsTrue a2 = first a2 _ h3 in
     let h1 : IsTrue a1 = first a1 _ h2 in
+    let number : IsTrue (is_number c.table) = second a1 _ h2 in
+    let above : IsTrue (nat_lt 0 c.version) = second a2 _ h3 in
+    let most : IsTrue (nat_le c.version 256) = second a3 _ h4 in
+    let rises : IsTrue (rises_above 0 (map (λ s. s.0) c.set)) = second a8 _ h9 in
     let set : IsTrue (list_all is_setting c.set) = second a9 _ h10 in
     record {
+      moment = h1;
       ts = omega (arith, ltb-true c.ts (2 ^ 63) (second (nat_lt 0 c.ts) _ h1));
-      table = omega (arith, number_below c.table (second a1 _ h2));
-      version = omega (arith, leb-true c.version 256 (second a3 _ h4));
+      number = number;
+      table = omega (arith, number_below c.table number);
+      versions = together (nat_lt 0 c.version) _ above most;
+      version = omega (arith, leb-true c.version 256 most);
+      some_parts = together (nat_lt 0 (length c.key)) _ (second a4 _ h5) (second a5 _ h6);
       parts = second a6 _ h7;
-      few = omega (arith, few_settings 0 c.set (omega arith) (second a8 _ h9) set);
+      short_key = second a7 _ h8;
+      rises = rises;
+      few = omega (arith, few_settings 0 c.set (omega arith) rises set);
       set = set;
+      bare = second a10 _ h;
     }
 
 abbrev set_bytes : Change → List ℕ
@@ -266,28 +288,28 @@ formats_same format.Two format.Two h = refl
 formats_same format.One format.Two h = absurd cc
 formats_same format.Two format.One h = absurd cc
 
-abbrev IsShort : List ℕ → Type 0
+abbrev pub IsShort : List ℕ → Type 0
 IsShort bs = length bs < 2 ^ 16
 
-abbrev is_from : Option ℕ → ℕ → Bool
+abbrev pub is_from : Option ℕ → ℕ → Bool
 is_from o a = if is_some o then nat_lt a (2 ^ 63) else a == 0
 
-abbrev is_origin : Format → ℕ → Option ℕ → Bool
+abbrev pub is_origin : Format → ℕ → Option ℕ → Bool
 is_origin f s o = option_map_or (λ p. is_two f && nat_lt p s) o true
 
-record IsHeader (f : Format) (h : Header) : Type 0 where
-  format : f ≡ h.format
-  stream : h.stream < 2 ^ 32
-  low : IsShort h.range.low
-  high : OptionalLawful IsShort h.range.high
-  predecessor : IsTrue (is_origin f h.stream h.predecessor)
-  from : IsTrue (is_from h.predecessor h.from)
+pub record IsHeader (f : Format) (h : Header) : Type 0 where
+  pub format : f ≡ h.format
+  pub stream : h.stream < 2 ^ 32
+  pub low : IsShort h.range.low
+  pub high : OptionalLawful IsShort h.range.high
+  pub predecessor : IsTrue (is_origin f h.stream h.predecessor)
+  pub from : IsTrue (is_from h.predecessor h.from)
 
-high_is : (low : List ℕ) (high : Option (List ℕ)) → IsTrue (fits_high low high) → OptionalLawful IsShort high
+pub high_is : (low : List ℕ) (high : Option (List ℕ)) → IsTrue (fits_high low high) → OptionalLawful IsShort high
 high_is low None h = tt
 high_is low (Some high) h = omega (arith, leb-true (length high) 4096 (second (below low high) _ h))
 
-header_is : (f : Format) (h : Header) → IsTrue (is_header f h) → IsHeader f h
+pub header_is : (f : Format) (h : Header) → IsTrue (is_header f h) → IsHeader f h
 header_is f h t =
     let a1 = same_format f h.format in
     let a2 = a1 && nat_lt h.stream (2 ^ 32) in
@@ -312,7 +334,7 @@ unfolding codec.bytes16 codec.u16
 bytes16_apart = spell_apart codec.bytes16 bytes16_is
 
 -- in format 1 there is no origin
-no_origin : (s : ℕ) (o : Option ℕ) (a : ℕ) → IsTrue (is_origin format.One s o) → IsTrue (is_from o a) → (o ≡ None) × (a ≡ 0)
+pub no_origin : (s : ℕ) (o : Option ℕ) (a : ℕ) → IsTrue (is_origin format.One s o) → IsTrue (is_from o a) → (o ≡ None) × (a ≡ 0)
 no_origin s None a h i = (refl, eqb-true a 0 i)
 no_origin s (Some p) a h i = absurd cc
 
@@ -356,7 +378,7 @@ headers_apart f h k i j e =
 
 -- ---- frames
 
-abbrev is_change_at : ℕ → Change → Bool
+abbrev pub is_change_at : ℕ → Change → Bool
 is_change_at t c = is_change c && c.ts == t
 
 changes_at_apart : (t : ℕ) → Apart change_body (λ c. IsTrue (is_change_at t c))
@@ -366,12 +388,12 @@ changes_at_apart t c d x y h i e =
 below_64 : (t : ℕ) → IsTrue (is_timestamp t) → t < 2 ^ 64
 below_64 t h = omega (arith, ltb-true t (2 ^ 63) (second (nat_lt 0 t) _ h))
 
-record IsBatch (t : ℕ) (cs : List Change) : Type 0 where
-  ts : t < 2 ^ 64
-  few : length cs < 2 ^ 32
-  changes : IsTrue (list_all (is_change_at t) cs)
+pub record IsBatch (t : ℕ) (cs : List Change) : Type 0 where
+  pub ts : t < 2 ^ 64
+  pub few : length cs < 2 ^ 32
+  pub changes : IsTrue (list_all (is_change_at t) cs)
 
-batch_is : (f : Format) (t : ℕ) (cs : List Change) → IsTrue (is_content f (batch_item t cs)) → IsBatch t cs
+pub batch_is : (f : Format) (t : ℕ) (cs : List Change) → IsTrue (is_content f (batch_item t cs)) → IsBatch t cs
 batch_is f t cs h =
     let a1 = is_two f && is_timestamp t in
     let a2 = a1 && nat_lt 0 (length cs) in
@@ -381,10 +403,10 @@ batch_is f t cs h =
     let h1 : IsTrue a1 = first a1 _ h2 in
     record { ts = below_64 t (second (is_two f) _ h1); few = ltb-true (length cs) (2 ^ 32) (second a2 _ h3); changes = second a3 _ h }
 
-close_first : (f : Format) (n count : ℕ) → IsTrue (is_content f (close_item n count)) → n < 2 ^ 32
+pub close_first : (f : Format) (n count : ℕ) → IsTrue (is_content f (close_item n count)) → n < 2 ^ 32
 close_first f n count h = omega (arith, leb-true (n + count) 256 (second (is_two f && nat_lt 0 count && nat_lt count 256) _ h))
 
-bodies_apart : (f : Format) (i j : Item) → IsTrue (is_content f i) → IsTrue (is_content f j) → kind_byte i ≡ kind_byte j → body i ≡ body j → i ≡ j
+pub bodies_apart : (f : Format) (i j : Item) → IsTrue (is_content f i) → IsTrue (is_content f j) → kind_byte i ≡ kind_byte j → body i ≡ body j → i ≡ j
 bodies_apart f (header_item h) (header_item k) p q n e = ap header_item (headers_apart f h k p q e)
 bodies_apart f (change_item c) (change_item d) p q n e =
     let a = change_fits c p in
@@ -405,7 +427,7 @@ bodies_apart f (close_item m a) (close_item k b) p q n e =
     ap (λ z. close_item z a) low.0 ∙ ap (close_item k) (heads a b [] [] low.1)
 bodies_apart f i j p q n e = absurd (omega (arith, n))
 
-short_body : (f : Format) (i : Item) → IsTrue (is_item f i) → length (body i) < 2 ^ 32
+pub short_body : (f : Format) (i : Item) → IsTrue (is_item f i) → length (body i) < 2 ^ 32
 short_body f i h = below_limit f (leb-true (length (body i)) (max_body f) (second (is_content f i) _ h))
   where
     below_limit : (g : Format) → length (body i) ≤ max_body g → length (body i) < 2 ^ 32

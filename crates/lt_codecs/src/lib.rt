@@ -5,27 +5,49 @@
 
 ghost use Rattle.lt_model.specs.Key.{AreKeysPrefixFree, KeepsOrder};
 ghost use Rattle.lt_model.specs.Log.{AreValuesPrefixFree, IsPrefixFree};
+ghost use Rattle.lt_codecs.specs.Front.{DecidesWhole, FindsOne, ReadsValue, ReadsWhole, StaysFound};
 
 /// For keys of one table the order of the bytes is the order of the parts.
 pub fn keys_keep_order()
     ensures { KeepsOrder }
-{
-}
+{}
 
 /// No key's bytes begin another's of its table.
 pub fn keys_are_prefix_free()
     ensures { AreKeysPrefixFree }
-{
-}
+{}
 
 /// No value's bytes begin another's.
 pub fn values_are_prefix_free()
     ensures { AreValuesPrefixFree }
-{
-}
+{}
 
 /// No frame begins another of its format.
 pub fn frames_are_prefix_free()
     ensures { IsPrefixFree }
-{
-}
+{}
+
+/// Exactly one thing is found at the front of bytes.
+pub fn finds_exactly_one()
+    ensures { FindsOne }
+{}
+
+/// Reading gives an item exactly where it stands whole at the front.
+pub fn reads_whole_items()
+    ensures { ReadsWhole }
+{}
+
+/// Either an item stands whole at the front of bytes, or none does.
+pub fn decides_whole_items()
+    ensures { DecidesWhole }
+{}
+
+/// What is found whole or malformed stays so while bytes are appended.
+pub fn stays_found_while_bytes_grow()
+    ensures { StaysFound }
+{}
+
+/// Reading gives a value exactly where one stands at the front.
+pub fn reads_values()
+    ensures { ReadsValue }
+{}
