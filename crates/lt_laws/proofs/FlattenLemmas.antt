@@ -153,7 +153,7 @@ passed_root c p m q r b = record { found = rw (eq-eqb c c refl) (path_above p m 
 
 -- ---- cells of one value
 
-cell_back : (r : Rank) (w : Value) → IsTrue (has_shape w (plain r)) → value_of r (cell_of w) ≡ w
+pub cell_back : (r : Rank) (w : Value) → IsTrue (has_shape w (plain r)) → value_of r (cell_of w) ≡ w
 cell_back r null_value h = refl
 cell_back r (bool_value b) h = refl
 cell_back r (int_value z) h = refl

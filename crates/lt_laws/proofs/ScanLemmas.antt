@@ -22,7 +22,8 @@ use Rattle.lt_model.specs.Key.{below, bytes_cmp, same_key}
 use Rattle.std.specs.Ordering.{is_eq, is_lt}
 use Rattle.std.proofs.lemmas.Cmp.{nat_list_cmp_total, tied_itself}
 use Rattle.std.proofs.lemmas.Map.Lookups.{exact_bytes}
-use Rattle.lt_laws.proofs.ListLaws.{Above, asof-effect, named, ordered-above, ordered-cons, ordered-tail, ordered-unique, filter-ordered}
+use Rattle.lt_laws.proofs.MergeLaws.{Above, named, ordered-above, ordered-cons, ordered-tail, ordered-unique, filter-ordered}
+use Rattle.lt_laws.proofs.ListLaws.{asof-effect}
 use Rattle.std.proofs.lemmas.List.Elements.{Contains-append_cases, Contains-append_left, Contains-append_right, Contains-push, Contains-push_cases}
 use Rattle.lt_model.specs.Sound.{row_cells, up_to_ts}
 use Rattle.lt_model.specs.Version.{RowVersion, asof, is_ordered, stands_before, carried, effect, effect_by, effect_of, overlay, read_cells, seen}
@@ -213,7 +214,7 @@ pub setting-map : (f : ℕ → Value → Value) (n : ℕ) (set : List (ℕ × Va
 setting-map f n [] = refl
 setting-map f n (s ∷ set) = setting_map_by f n s (setting n (map (λ s. (s.0, f s.0 s.1)) set)) (setting n set) (n == s.0) refl (setting-map f n set)
 
-abbrev at_carrier : Table → ℕ → Value → Value
+abbrev pub at_carrier : Table → ℕ → Value → Value
 at_carrier t n v = option_map_or (conv v) (carrier t n) v
 
 found_carrier_by : (t : Table) (n m : ℕ) (ns : List ℕ) (x : ℕ × Kind) (o : Option Kind) (b : Bool) → carrier t m ≡ o → (m == n) ≡ b → (kind_for (carriers_of t ns) n ≡ Some x → carrier t n ≡ Some x.1)
@@ -337,7 +338,7 @@ tied Less h = cc
 tied Equal h = refl
 tied Greater h = cc
 
-the_key : (a b : List ℕ) → same_key a b ≡ true → a ≡ b
+pub the_key : (a b : List ℕ) → same_key a b ≡ true → a ≡ b
 the_key a b h = exact_bytes a b (tied (bytes_cmp a b) h)
 
 -- of one key a version stands before the earlier ones
@@ -437,7 +438,7 @@ held-found (w ∷ vs) v o h = elim (held_cases w vs v h) [
   | inr i ↦ later_by w v (find (named v.key v.ts) vs) (Some v) (named v.key v.ts w) refl (above_held w vs v (ordered-above w vs o) i) (held-found vs v (ordered-tail w vs o) i)
 ]
 
-found_too : (key : List ℕ) (t : ℕ) (vs ws : List RowVersion) (v : RowVersion) → IsTrue (is_ordered ws) → ((v : RowVersion) → Contains vs v → Contains ws v) → find (named key t) vs ≡ Some v → find (named key t) ws ≡ Some v
+pub found_too : (key : List ℕ) (t : ℕ) (vs ws : List RowVersion) (v : RowVersion) → IsTrue (is_ordered ws) → ((v : RowVersion) → Contains vs v → Contains ws v) → find (named key t) vs ≡ Some v → find (named key t) ws ≡ Some v
 found_too key t vs ws v o f e = let r = found-held (named key t) vs v e in let n = and_parts (same_key key v.key) (v.ts == t) r.1 in
     ap (λ k. find (named k t) ws) (the_key key v.key n.0) ∙ ap (λ u. find (named v.key u) ws) (sym (eqb-true v.ts t n.1)) ∙ held-found ws v o (f v r.0)
 
@@ -505,7 +506,7 @@ in-back cat (d ∷ cs) c h = elim (in_cases d cs c h) [
 abbrev Higher : List ℕ → ℕ → List RowVersion → Type 0
 Higher key t vs = AllByRecursion (λ v. (v.key ≡ key) × (t < v.ts)) vs
 
-abbrev KeysAre : List ℕ → List Change → Type 0
+abbrev pub KeysAre : List ℕ → List Change → Type 0
 KeysAre key cs = AllByRecursion (λ c. change_key c ≡ key) cs
 
 higher_push : (key : List ℕ) (low t : ℕ) (vs : List RowVersion) (w : RowVersion) → low < t → Higher key t vs → w.key ≡ key → low < w.ts → Higher key low (vs ++ w ∷ [])
@@ -555,7 +556,7 @@ keys_by : (key : List ℕ) (c : Change) (cs : List Change) (b : Bool) → (b ≡
 keys_by key c cs true e h = (e refl, h)
 keys_by key c cs false e h = h
 
-keys_to : (key : List ℕ) (source : List Change) → KeysAre key (changes_to key source)
+pub keys_to : (key : List ℕ) (source : List Change) → KeysAre key (changes_to key source)
 keys_to key [] = tt
 keys_to key (c ∷ cs) = keys_by key c (changes_to key cs) (same_key (change_key c) key) (the_key (change_key c) key) (keys_to key cs)
 

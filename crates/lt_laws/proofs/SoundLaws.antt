@@ -23,8 +23,10 @@ use Rattle.lt_model.specs.Store.{Durable, Part, Stream, part_ranges}
 use Rattle.lt_model.specs.Sound.{AreAtPlaces, Fronts, FrontsFrom, IsGood, IsPlace, IsSound, OpeningIsGood, PendingOfAll, SoundPart, SoundPartOf, SoundParts, SoundPoints, Stands, items_before, passed, row_cells, source_of}
 use Rattle.lt_model.specs.declared.Format.{Format}
 use Rattle.lt_model.specs.declared.Format.TheVariants as format
-use Rattle.lt_laws.proofs.FairLaws.{AllInRange, ArePast, FrontsStay, above, below_trans, changes_of-append, checkpoint_rises, fair_in_range, fronts_stay, rest_above, row_stays, same}
-use Rattle.lt_laws.proofs.ListLaws.{in-common}
+use Rattle.lt_laws.proofs.FairLaws.{AllInRange, ArePast, fair_in_range, row_stays}
+use Rattle.lt_laws.proofs.FrontLaws.{FrontsStay, checkpoint_rises, fronts_stay, rest_above}
+use Rattle.lt_laws.proofs.PointLaws.{above, below_trans, changes_of-append, same}
+use Rattle.lt_laws.proofs.ClipLaws.{in-common}
 use Rattle.lt_codecs.proofs.LogLaws.{frames_prefix_free}
 
 -- ---- tests and lists
@@ -37,11 +39,11 @@ right : (a b : Bool) → (a && b) ≡ true → b ≡ true
 right true b h = h
 right false b h = cc
 
-not-true : (b : Bool) → not b ≡ true → b ≡ false
+pub not-true : (b : Bool) → not b ≡ true → b ≡ false
 not-true true h = sym h
 not-true false h = refl
 
-twice : (b : Bool) → b ≡ true → not (not b) ≡ true
+pub twice : (b : Bool) → b ≡ true → not (not b) ≡ true
 twice true h = refl
 twice false h = h
 
@@ -81,7 +83,7 @@ filter-all P test (x ∷ xs) a = filter-all-by P test x (filter test xs) (test x
 
 -- ---- two ranges with a key in common meet
 
-low-high : (k low : List ℕ) (high : Option (List ℕ)) (b : Bool) → same_key k low ≡ b → below k low ≡ false → is_below_high k high ≡ true → is_below_high low high ≡ true
+pub low-high : (k low : List ℕ) (high : Option (List ℕ)) (b : Bool) → same_key k low ≡ b → below k low ≡ false → is_below_high k high ≡ true → is_below_high low high ≡ true
 low-high k low None b s h e = refl
 low-high k low (Some x) true s h e = subst (λ (y : List ℕ). below y x ≡ true) (same k low s) e
 low-high k low (Some x) false s h e = below_trans low k x (above k low h s) e
@@ -130,7 +132,7 @@ open-items f [] (suc n) r a = refl
 open-items f (i ∷ is) zero r a = refl
 open-items f (i ∷ is) (suc n) r a = open-one f i (take n is) r a.0 (open-items f is n r a.1)
 
-changes-take : (P : Change → Type 0) (items : List Item) (n : ℕ) → AllByRecursion P (changes_of items) → AllByRecursion P (changes_of (take n items))
+pub changes-take : (P : Change → Type 0) (items : List Item) (n : ℕ) → AllByRecursion P (changes_of items) → AllByRecursion P (changes_of (take n items))
 changes-take P [] zero a = tt
 changes-take P [] (suc n) a = tt
 changes-take P (i ∷ is) zero a = tt
@@ -160,7 +162,7 @@ usable-one : (m n : Bool) → not m || n ≡ true → m ≡ true → n ≡ true
 usable-one true n h e = h
 usable-one false n h e = cc
 
-le-true : (a b : ℕ) → nat_le a b ≡ true → a ≤ b
+pub le-true : (a b : ℕ) → nat_le a b ≡ true → a ≤ b
 le-true a b e = grind (arith, nat_tests)
 
 free-by : (xs : List (Part × Range)) (r : Range) (p : Point) (c : Change) → list_all (λ x. not (meets x.1 r) || nat_le p.greatest x.0.resume) xs ≡ true → in_range (change_key c) r ≡ true → c.ts ≤ p.greatest → FreeAt xs c
@@ -185,7 +187,7 @@ first-point : (h : Header) → (behind_header h).point ≡ point_of h []
 unfolding point_of
 first-point h = refl
 
-checkpoint-is : (h : Header) (items : List Item) → (point_of h items).checkpoint ≡ checkpoint_of h items
+pub checkpoint-is : (h : Header) (items : List Item) → (point_of h items).checkpoint ≡ checkpoint_of h items
 unfolding point_of
 checkpoint-is h items = refl
 
@@ -277,26 +279,26 @@ all-contained : {A : Type 0} (xs : List A) → AllByRecursion (Contains xs) xs
 all-contained [] = tt
 all-contained (x ∷ xs) = ((zero, omega arith, refl), all-map (Contains xs) (Contains (x ∷ xs)) xs (λ y k. contains-cons x xs y k) (all-contained xs))
 
-grows-same : (feed more : Feed) → Grows feed more → length feed ≡ length more
+pub grows-same : (feed more : Feed) → Grows feed more → length feed ≡ length more
 grows-same [] [] g = refl
 grows-same [] (now ∷ nows) g = let d : false ≡ true = g in cc
 grows-same (old ∷ olds) [] g = absurd g
 grows-same (old ∷ olds) (now ∷ nows) g = ap (λ n. suc n) (grows-same olds nows g.1)
 
 -- a front with items behind it
-abbrev with_more : Header × List Item → List Item → Header × List Item
+abbrev pub with_more : Header × List Item → List Item → Header × List Item
 with_more f rest = (f.0, f.1 ++ rest)
 
 pair-is : (g f : Header × List Item) (rest : List Item) → g.0 ≡ f.0 → g.1 ≡ f.1 ++ rest → with_more f rest ≡ g
 pair-is g f rest a b = sym (ap₂ (λ (x : Header) (y : List Item). let z : Header × List Item = (x, y) in z) a b)
 
-abbrev IsLonger : Catalogue → List (Header × List Item) → List (Header × List Item) → Type 0
+abbrev pub IsLonger : Catalogue → List (Header × List Item) → List (Header × List Item) → Type 0
 IsLonger cat [] [] = ⊤
 IsLonger cat [] (g ∷ gs) = ⊥
 IsLonger cat (f ∷ fs) [] = ⊥
 IsLonger cat (f ∷ fs) (g ∷ gs) = ((rest : List Item) × (with_more f rest ≡ g) × (is_fair f.0 cat (f.1 ++ rest) ≡ true)) × IsLonger cat fs gs
 
-longer-by : (more : Feed) (cat : Catalogue) (n : ℕ) (fs gs : List (Header × List Item)) → length fs ≡ length gs → FrontsStay fs gs → FrontsFrom more cat n gs → IsLonger cat fs gs
+pub longer-by : (more : Feed) (cat : Catalogue) (n : ℕ) (fs gs : List (Header × List Item)) → length fs ≡ length gs → FrontsStay fs gs → FrontsFrom more cat n gs → IsLonger cat fs gs
 longer-by more cat n [] [] l st q = tt
 longer-by more cat n [] (g ∷ gs) l st q = absurd (omega (arith, l))
 longer-by more cat n (f ∷ fs) [] l st q = absurd (omega (arith, l))
@@ -308,7 +310,7 @@ longer-by more cat n (f ∷ fs) (g ∷ gs) l st q = (
 longer : (feed more : Feed) (cat : Catalogue) (fs gs : List (Header × List Item)) → Grows feed more → IsCatalogue cat → Fronts feed cat fs → Fronts more cat gs → IsLonger cat fs gs
 longer feed more cat fs gs grows lawful p q = longer-by more cat 0 fs gs (p.all ∙ grows-same feed more grows ∙ sym q.all) (fronts_stay frames_prefix_free feed more cat cat fs gs grows lawful as_it_was p q) q.each
 
-source-more : (cat : Catalogue) (fs gs : List (Header × List Item)) → IsLonger cat fs gs → AllByRecursion (Contains (source_of gs)) (source_of fs)
+pub source-more : (cat : Catalogue) (fs gs : List (Header × List Item)) → IsLonger cat fs gs → AllByRecursion (Contains (source_of gs)) (source_of fs)
 source-more cat [] [] st = tt
 source-more cat [] (g ∷ gs) st = absurd st
 source-more cat (f ∷ fs) [] st = absurd st
@@ -319,13 +321,13 @@ source-more cat (f ∷ fs) (g ∷ gs) st =
     (subst (λ (x : List Change). Contains x c) (sym e) (contains-front (changes_of f.1) (changes_of st.0.0) c k))) (all-contained (changes_of f.1)))
     (all-map (Contains (source_of gs)) (Contains (changes_of g.1 ++ source_of gs)) (source_of fs) (λ c k. contains-rest (changes_of g.1) (source_of gs) c k) (source-more cat fs gs st.1))
 
-abbrev Back : Range → ℕ → List Change → Change → Type 0
+abbrev pub Back : Range → ℕ → List Change → Change → Type 0
 Back r t cs c = in_range (change_key c) r ≡ true → c.ts ≤ t → Contains cs c
 
-abbrev Behind : Range → ℕ → List (Header × List Item) → Type 0
+abbrev pub Behind : Range → ℕ → List (Header × List Item) → Type 0
 Behind r t fs = AllByRecursion (λ f. IsTrue (meets f.0.range r) → t ≤ checkpoint_of f.0 f.1) fs
 
-source-back : (cat : Catalogue) (r : Range) (t : ℕ) (fs gs : List (Header × List Item)) → IsLonger cat fs gs → Behind r t fs → AllByRecursion (Back r t (source_of fs)) (source_of gs)
+pub source-back : (cat : Catalogue) (r : Range) (t : ℕ) (fs gs : List (Header × List Item)) → IsLonger cat fs gs → Behind r t fs → AllByRecursion (Back r t (source_of fs)) (source_of gs)
 source-back cat r t [] [] st b = tt
 source-back cat r t [] (g ∷ gs) st b = absurd st
 source-back cat r t (f ∷ fs) [] st b = absurd st
@@ -342,7 +344,7 @@ source-back cat r t (f ∷ fs) (g ∷ gs) st b =
     (subst (λ (x : List Change). AllByRecursion (Back r t (changes_of f.1 ++ source_of fs)) x) (sym e) (all-append (Back r t (changes_of f.1 ++ source_of fs)) (changes_of f.1) (changes_of st.0.0) old new))
     (all-map (Back r t (source_of fs)) (Back r t (changes_of f.1 ++ source_of fs)) (source_of gs) (λ c k a l. contains-rest (changes_of f.1) (source_of fs) c (k a l)) (source-back cat r t fs gs st.1 b.1))
 
-behind-more : (cat : Catalogue) (r : Range) (t : ℕ) (fs gs : List (Header × List Item)) → IsLonger cat fs gs → Behind r t fs → Behind r t gs
+pub behind-more : (cat : Catalogue) (r : Range) (t : ℕ) (fs gs : List (Header × List Item)) → IsLonger cat fs gs → Behind r t fs → Behind r t gs
 behind-more cat r t [] [] st b = tt
 behind-more cat r t [] (g ∷ gs) st b = absurd st
 behind-more cat r t (f ∷ fs) [] st b = absurd st
@@ -365,7 +367,7 @@ stands-more f rest at (n, l, a, b, c) =
     let m : length (f.1 ++ rest) ≡ length f.1 + length rest = length-append f.1 rest in
     (n, omega (arith, l, m), a ∙ ap (place_after f.0) e, b ∙ ap (point_of f.0) e, c ∙ ap is_closed e)
 
-points-more : (cat : Catalogue) (fs gs : List (Header × List Item)) (ss : List Stream) → IsLonger cat fs gs → SoundPoints fs ss → SoundPoints gs ss
+pub points-more : (cat : Catalogue) (fs gs : List (Header × List Item)) (ss : List Stream) → IsLonger cat fs gs → SoundPoints fs ss → SoundPoints gs ss
 points-more cat [] [] [] st b = tt
 points-more cat [] [] (s ∷ ss) st b = absurd b
 points-more cat [] (g ∷ gs) ss st b = absurd st
@@ -378,7 +380,7 @@ points-more cat (f ∷ fs) (g ∷ gs) (s ∷ ss) st b = (
   points-more cat fs gs ss st.1 b.2,
 )
 
-places-more : (cat : Catalogue) (fs gs : List (Header × List Item)) (ss : List StreamAt) → IsLonger cat fs gs → AreAtPlaces fs ss → AreAtPlaces gs ss × (passed fs ss ≡ passed gs ss)
+pub places-more : (cat : Catalogue) (fs gs : List (Header × List Item)) (ss : List StreamAt) → IsLonger cat fs gs → AreAtPlaces fs ss → AreAtPlaces gs ss × (passed fs ss ≡ passed gs ss)
 places-more cat [] [] [] st b = (tt, refl)
 places-more cat [] [] (s ∷ ss) st b = absurd b
 places-more cat [] (g ∷ gs) ss st b = absurd st
@@ -396,7 +398,7 @@ places-more cat (f ∷ fs) (g ∷ gs) (s ∷ ss) st b =
       ap₂ (λ (x y : List Change). x ++ y) one others.1,
     )
 
-past-key : (key : List ℕ) (r : Range) (t u : ℕ) (fs : List (Header × List Item)) → in_range key r ≡ true → u ≤ t → Behind r t fs → ArePast key u fs
+pub past-key : (key : List ℕ) (r : Range) (t u : ℕ) (fs : List (Header × List Item)) → in_range key r ≡ true → u ≤ t → Behind r t fs → ArePast key u fs
 past-key key r t u fs w l b = all-map (λ f. IsTrue (meets f.0.range r) → t ≤ checkpoint_of f.0 f.1) (λ f. in_range key f.0.range ≡ true → u ≤ checkpoint_of f.0 f.1) fs
     (λ f k a. let m : t ≤ checkpoint_of f.0 f.1 = k (meets-by key f.0.range r a w) in omega (arith, m, l)) b
 
@@ -454,7 +456,7 @@ sound_grows_where image feed more grows s gs b = record {
 
 -- ---- a longer feed changes no row up to a safe moment
 
-pick : {X : Type 0} (b : Bool) → (b ≡ true → X) → (b ≡ false → X) → X
+pub pick : {X : Type 0} (b : Bool) → (b ≡ true → X) → (b ≡ false → X) → X
 pick true f g = f refl
 pick false f g = g refl
 
@@ -462,11 +464,11 @@ least-low : (t n : ℕ) (ns : List ℕ) → t ≤ fold min n ns → (t ≤ n) ×
 least-low t n [] h = (h, tt)
 least-low t n (m ∷ ns) h = let r = least-low t (min n m) ns h in let a : t ≤ min n m = r.0 in (omega (arith, a), (omega (arith, a), r.1))
 
-least-all : (t : ℕ) (ns : List ℕ) → t ≤ least ns → AllByRecursion (λ m. t ≤ m) ns
+pub least-all : (t : ℕ) (ns : List ℕ) → t ≤ least ns → AllByRecursion (λ m. t ≤ m) ns
 least-all t [] h = tt
 least-all t (n ∷ ns) h = least-low t n ns h
 
-kept-by : (P : ℕ → Type 0) (b : Bool) (m : ℕ) (ns : List ℕ) → AllByRecursion P (cons_option (when b m) ns) → (b ≡ true → P m) × AllByRecursion P ns
+pub kept-by : (P : ℕ → Type 0) (b : Bool) (m : ℕ) (ns : List ℕ) → AllByRecursion P (cons_option (when b m) ns) → (b ≡ true → P m) × AllByRecursion P ns
 kept-by P true m ns a = ((λ e. a.0), a.1)
 kept-by P false m ns a = ((λ e. let d : false ≡ true = e in cc), a)
 
@@ -488,10 +490,10 @@ behind-safe feed cat r t n (f ∷ fs) (s ∷ ss) a b l =
 behind-less : (r : Range) (t u : ℕ) (fs : List (Header × List Item)) → u ≤ t → Behind r t fs → Behind r u fs
 behind-less r t u fs l b = all-map (λ f. IsTrue (meets f.0.range r) → t ≤ checkpoint_of f.0 f.1) (λ f. IsTrue (meets f.0.range r) → u ≤ checkpoint_of f.0 f.1) fs (λ f k a. let m : t ≤ checkpoint_of f.0 f.1 = k a in omega (arith, m, l)) b
 
-le-false : (a b : ℕ) → nat_le a b ≡ false → b < a
+pub le-false : (a b : ℕ) → nat_le a b ≡ false → b < a
 le-false a b e = grind (arith, nat_tests)
 
-max-other : (t a b : ℕ) → t ≤ max a b → a < t → t ≤ b
+pub max-other : (t a b : ℕ) → t ≤ max a b → a < t → t ≤ b
 max-other t a b h l = omega arith
 
 part-safe : (feed : Feed) (d : Durable) (t : ℕ) (fs : List (Header × List Item)) (ss : List StreamAt) (p : Part) (r : Range) → FrontsFrom feed d.catalogue 0 fs → AreAtPlaces fs ss → SoundPart d fs p r → t ≤ checkpoint_at ss p r → Behind r t fs
@@ -499,11 +501,11 @@ part-safe feed d t fs ss p r a b s h = pick (nat_le t p.resume)
     (λ e. behind-less r p.resume t fs (le-true t p.resume e) s.resume)
     (λ e. behind-safe feed d.catalogue r t 0 fs ss a b (least-all t (checkpoints_meeting ss r) (max-other t p.resume (least (checkpoints_meeting ss r)) h (le-false t p.resume e))))
 
-not-found : {A : Type 0} (b : Bool) (x : A) (o : Option A) → cond b (Some x) o ≡ None → (b ≡ false) × (o ≡ None)
+pub not-found : {A : Type 0} (b : Bool) (x : A) (o : Option A) → cond b (Some x) o ≡ None → (b ≡ false) × (o ≡ None)
 not-found true x o e = cc
 not-found false x o e = (refl, e)
 
-at-least : (m : Bool) (c t : ℕ) → m && nat_lt c t ≡ false → m ≡ true → t ≤ c
+pub at-least : (m : Bool) (c t : ℕ) → m && nat_lt c t ≡ false → m ≡ true → t ≤ c
 at-least true c t e h = grind (arith, nat_tests)
 at-least false c t e h = cc
 
@@ -529,11 +531,11 @@ not-below-none [] [] e = refl
 not-below-none (k ∷ ks) [] e = refl
 not-below-none key (l ∷ ls) e = let d : length (l ∷ ls) ≡ 0 = eq-zero (length (l ∷ ls)) e in absurd (omega (arith, d))
 
-in-some-part : (key : List ℕ) (X : Type 0) (ps : List Part) → IsTrue (tile (map (λ p. p.low) ps)) → AllByRecursion (λ x. in_range key x.1 ≡ true → X) (zip ps (part_ranges ps)) → X
+pub in-some-part : (key : List ℕ) (X : Type 0) (ps : List Part) → IsTrue (tile (map (λ p. p.low) ps)) → AllByRecursion (λ x. in_range key x.1 ≡ true → X) (zip ps (part_ranges ps)) → X
 in-some-part key X [] e a = let d : false ≡ true = e in cc
 in-some-part key X (p ∷ ps) e a = found-part key X p ps (not-below-none key p.low (left (length p.low == 0) _ e)) a
 
-none-mapped : {A B : Type 0} (f : A → B) (o : Option A) → option_map f o ≡ None → o ≡ None
+pub none-mapped : {A B : Type 0} (f : A → B) (o : Option A) → option_map f o ≡ None → o ≡ None
 none-mapped f None e = refl
 none-mapped f (Some x) e = cc
 

@@ -1,0 +1,265 @@
+-- A job that begins or goes on keeps a good session.
+use Rattle.std.proofs.Common.{Bool, List, [], ap, arith, cond, eq-eqb, false, inl, inr, leb-false, length, refl, subst, suc, sym, true, zero, ℕ, ◌+◌, ◌<◌, ◌∙◌, ◌∷◌, ◌≡◌, ◌≤◌}
+use Rattle.std.specs.Prelude.{Contains, IfSome, IsTrue, None, Option, Some, filter, find, flat_map, fold, map, min, nat_le, not, option_and_then, option_map, slice_get, ◌==◌, ◌⊎◌}
+use Rattle.std.specs.List.{AllByRecursion, cons_option, list_any}
+use Rattle.std.specs.Option.{option_map_or}
+use Rattle.std.proofs.lemmas.Bool.{and_from, false≢true, not-false}
+use Rattle.lt_model.specs.Key.{Range, below, first_bound, in_range, is_below_high, lies_in, meets, rise}
+use Rattle.lt_model.specs.Schema.{Catalogue, as_it_was, carriers}
+use Rattle.lt_model.specs.Version.{RowVersion, clip, coerce_all, coerced, least_ts, merge, put_version, put_versions, same_name, stands_before}
+use Rattle.lt_model.specs.Store.{AreLawfulTables, Delta, Durable, IsLawfulPart, Part, TableDelta, table_of, versions_in, all_versions, carried_versions, delta_with, deltas_of, merged_in, part_ranges}
+use Rattle.lt_model.specs.Machine.{Job, State, is_major_mode, unknown_in, delta_least, inputs_of, job_after, job_for, job_keys, ranges_of}
+use Rattle.lt_model.specs.Reply.{no_such_delta}
+use Rattle.lt_model.specs.Script.{Mode, do_job_begin, do_job_step, major, minor}
+use Rattle.lt_model.specs.Sound.{IsGood, JobBegan, JobStands, ListsAll}
+use Rattle.lt_laws.proofs.ListFacts.{all_at, all_from, all_map, contains_front, contains_rest, find_held, find_none, from_filter_map, none_mapped}
+use Rattle.lt_laws.proofs.ReadLaws.{or_left, or_right}
+use Rattle.lt_laws.proofs.RangeLaws.{IsOutOf, IsSole, tile_rises, tile_sole}
+use Rattle.lt_laws.proofs.ScanLemmas.{from-filter, in-filter}
+use Rattle.lt_laws.proofs.ScanLaws.{tiles_of}
+use Rattle.lt_laws.proofs.SoundLaws.{meets-by, pick}
+use Rattle.lt_laws.proofs.SplitLaws.{Each, IsWholeIn, StandsAt, each_as, each_zipped, in_lies, lies_itself, lows_of, meets_some, not_below_itself, rise_first, rise_rest}
+use Rattle.lt_laws.proofs.StepLaws.{KeepsDoing, unrefused}
+
+-- ---- of ranges that tile, the chosen one meets no other
+
+abbrev NoMeet : Range → Range → Type 0
+NoMeet q r = meets q r ≡ true → ⊥
+
+abbrev IsItOr : Part → Range → Part → Range → Type 0
+IsItOr p r q s = ((q ≡ p) × (s ≡ r)) ⊎ NoMeet s r
+
+out_at : (key : List ℕ) (rs : List Range) (n : ℕ) (r : Range) → IsOutOf key rs → slice_get rs n ≡ Some r → in_range key r ≡ false
+out_at key [] n r o e = cc
+out_at key (q ∷ rs) zero r o e = let d : q ≡ r = cc in subst (λ (x : Range). in_range key x ≡ false) d o.0
+out_at key (q ∷ rs) (suc n) r o e = out_at key rs n r o.1 e
+
+others_apart : (r : Range) (ps : List Part) (rs : List Range) (p : Part) → ((key : List ℕ) → in_range key r ≡ true → IsOutOf key rs) → length ps ≡ length rs → Each (IsItOr p r) ps rs
+others_apart r [] rs p f l = tt
+others_apart r (q ∷ ps) [] p f l = absurd (omega (arith, l))
+others_apart r (q ∷ ps) (s ∷ rs) p f l = (
+  inr (λ m. let k = meets_some s r m in false≢true (sym (f k.0 k.2).0 ∙ k.1)),
+  others_apart r ps rs p (λ key h. (f key h).1) (omega (arith, l)),
+)
+
+chosen_apart : (n : ℕ) (ps : List Part) (rs : List Range) (p : Part) (r : Range) → ((key : List ℕ) → IsSole key rs) → length ps ≡ length rs → slice_get ps n ≡ Some p → slice_get rs n ≡ Some r → Each (IsItOr p r) ps rs
+chosen_apart n [] rs p r f l e d = tt
+chosen_apart n (q ∷ ps) [] p r f l e d = absurd (omega (arith, l))
+chosen_apart zero (q ∷ ps) (s ∷ rs) p r f l e d =
+    let a : q ≡ p = cc in
+    let b : s ≡ r = cc in
+    (inl (a, b), others_apart r ps rs p (λ key h. (f key).0 (ap (in_range key) b ∙ h)) (omega (arith, l)))
+chosen_apart (suc n) (q ∷ ps) (s ∷ rs) p r f l e d = (
+  inr (λ m. let k = meets_some s r m in false≢true (sym (out_at k.0 rs n r ((f k.0).0 k.1) d) ∙ k.2)),
+  chosen_apart n ps rs p r (λ key. (f key).1) (omega (arith, l)) e d,
+)
+
+as_many : (ps : List Part) → length ps ≡ length (part_ranges ps)
+as_many [] = refl
+as_many (p ∷ ps) = ap suc (as_many ps)
+
+-- each has its low bound
+abbrev HasLow : Range → Type 0
+HasLow r = in_range r.low r ≡ true
+
+low_within : (low : List ℕ) (o : Option (List ℕ)) → ((b : List ℕ) → o ≡ Some b → below low b ≡ true) → is_below_high low o ≡ true
+low_within low None f = refl
+low_within low (Some b) f = f b refl
+
+all_have_low : (ps : List Part) → IsTrue (rise (lows_of ps)) → Each (λ p r. HasLow r) ps (part_ranges ps)
+all_have_low [] h = tt
+all_have_low (p ∷ ps) h = (and_from _ _ (ap not (not_below_itself p.low)) (low_within p.low (first_bound (lows_of ps)) (λ b e. rise_first p.low b (lows_of ps) h e)), all_have_low ps (rise_rest p.low (lows_of ps) h))
+
+both_each : (P Q R : Part → Range → Type 0) (ps : List Part) (rs : List Range) → ((p : Part) (r : Range) → P p r → Q p r → R p r) → Each P ps rs → Each Q ps rs → Each R ps rs
+both_each P Q R [] rs f a b = tt
+both_each P Q R (p ∷ ps) [] f a b = a
+both_each P Q R (p ∷ ps) (r ∷ rs) f a b = (f p r a.0 b.0, both_each P Q R ps rs f a.1 b.1)
+
+-- ---- the inputs
+
+abbrev lists_id : List ℕ → ℕ → Bool
+lists_id ids i = list_any (λ x. x == i) ids
+
+any_from : (ids : List ℕ) (i : ℕ) → Contains ids i → IsTrue (lists_id ids i)
+any_from [] i h = absurd (omega (arith, h.1))
+any_from (x ∷ ids) i (zero, l, e) = or_left (x == i) (lists_id ids i) (eq-eqb x i e)
+any_from (x ∷ ids) i (suc k, l, e) = or_right (x == i) (lists_id ids i) (any_from ids i (k, omega (arith, l), e))
+
+filtered_listed : (test : ℕ → Bool) (ids : List ℕ) → ListsAll ids (filter test ids)
+filtered_listed test ids = all_from (λ i. IsTrue (lists_id ids i)) (filter test ids) (λ i h. any_from ids i (from-filter test ids i h).0)
+
+named_listed : (ids named : List ℕ) → find (λ id. not (list_any (λ x. x == id) ids)) named ≡ None → ListsAll ids named
+named_listed ids named e = all_map (λ i. not (lists_id ids i) ≡ false) (λ i. IsTrue (lists_id ids i)) named (λ i h. not-false (lists_id ids i) h) (find_none (λ i. not (lists_id ids i)) named e)
+
+-- ---- the least timestamp of a delta
+
+least_under : (t : ℕ) (vs : List RowVersion) → fold (λ t w. min t w.ts) t vs ≤ t
+least_under t [] = omega arith
+least_under t (v ∷ vs) = let h : fold (λ t w. min t w.ts) (min t v.ts) vs ≤ min t v.ts = least_under (min t v.ts) vs in omega (arith, h)
+
+least_of_all : (t : ℕ) (vs : List RowVersion) (v : RowVersion) → Contains vs v → fold (λ t w. min t w.ts) t vs ≤ v.ts
+least_of_all t [] v h = absurd (omega (arith, h.1))
+least_of_all t (w ∷ vs) v (zero, l, e) = let h : fold (λ t w. min t w.ts) (min t w.ts) vs ≤ min t w.ts = least_under (min t w.ts) vs in subst (λ (x : RowVersion). fold (λ t w. min t w.ts) (min t w.ts) vs ≤ x.ts) e (omega (arith, h))
+least_of_all t (w ∷ vs) v (suc k, l, e) = least_of_all (min t w.ts) vs v (k, omega (arith, l), e)
+
+least_held : (vs : List RowVersion) (v : RowVersion) → Contains vs v → least_ts vs ≤ v.ts
+least_held [] v h = absurd (omega (arith, h.1))
+least_held (w ∷ vs) v (zero, l, e) = subst (λ (x : RowVersion). least_ts (w ∷ vs) ≤ x.ts) e (least_under w.ts vs)
+least_held (w ∷ vs) v (suc k, l, e) = least_of_all w.ts vs v (k, omega (arith, l), e)
+
+put_from_by : (v w : RowVersion) (ws : List RowVersion) (x : RowVersion) (b c : Bool) → (Contains (put_version v ws) x → (v ≡ x) ⊎ Contains ws x) → Contains (cond b (v ∷ w ∷ ws) (cond c (v ∷ ws) (w ∷ put_version v ws))) x → (v ≡ x) ⊎ Contains (w ∷ ws) x
+put_from_by v w ws x true c f (zero, l, e) = inl e
+put_from_by v w ws x true c f (suc k, l, e) = inr (k, omega (arith, l), e)
+put_from_by v w ws x false true f (zero, l, e) = inl e
+put_from_by v w ws x false true f (suc k, l, e) = inr (suc k, omega (arith, l), e)
+put_from_by v w ws x false false f (zero, l, e) = inr (zero, omega arith, e)
+put_from_by v w ws x false false f (suc k, l, e) = elim (f (k, omega (arith, l), e)) [ inl d ↦ inl d | inr (i, m, g) ↦ inr (suc i, omega (arith, m), g) ]
+
+put_from : (v : RowVersion) (ws : List RowVersion) (x : RowVersion) → Contains (put_version v ws) x → (v ≡ x) ⊎ Contains ws x
+put_from v [] x (zero, l, e) = inl e
+put_from v [] x (suc k, l, e) = absurd (omega (arith, l))
+put_from v (w ∷ ws) x h = put_from_by v w ws x (stands_before v w) (same_name v w) (put_from v ws x) h
+
+-- a merged version is one of those merged
+pub puts_from : (vs ws : List RowVersion) (x : RowVersion) → Contains (put_versions vs ws) x → Contains vs x ⊎ Contains ws x
+puts_from [] ws x h = inr h
+puts_from (v ∷ vs) ws x h = elim (put_from v (put_versions vs ws) x h) [
+  | inl e ↦ inl (zero, omega arith, e)
+  | inr i ↦ elim (puts_from vs ws x i) [ inl (k, l, e) ↦ inl (suc k, omega (arith, l), e) | inr j ↦ inr j ]
+]
+
+pub flat_held : {A B : Type 0} (f : A → List B) (xs : List A) (x : A) (y : B) → Contains xs x → Contains (f x) y → Contains (flat_map f xs) y
+flat_held f [] x y h i = absurd (omega (arith, h.1))
+flat_held f (z ∷ xs) x y (zero, l, e) i = contains_front (f z) (flat_map f xs) y (subst (λ u. Contains (f u) y) (sym e) i)
+flat_held f (z ∷ xs) x y (suc k, l, e) i = contains_rest (f z) (flat_map f xs) y (flat_held f xs x y (k, omega (arith, l), e) i)
+
+pub from_map : {A B : Type 0} (f : A → B) (xs : List A) (y : B) → Contains (map f xs) y → (x : A) × Contains xs x × (f x ≡ y)
+from_map f [] y h = absurd (omega (arith, h.1))
+from_map f (x ∷ xs) y (zero, l, e) = (x, (zero, omega arith, refl), e)
+from_map f (x ∷ xs) y (suc k, l, e) = let r = from_map f xs y (k, omega (arith, l), e) in (r.0, (let h = r.1 in (suc h.0, omega (arith, h.1), h.2)), r.2)
+
+carried_late : (cat : Catalogue) (table : ℕ) (x : Delta) (o : Option TableDelta) (v : RowVersion) → find (λ t. t.table == table) x.tables ≡ o → Contains (option_map_or (λ t. coerce_all t.layout (carriers cat table) (versions_in t)) o []) v → delta_least x ≤ v.ts
+carried_late cat table x None v e h = absurd (omega (arith, h.1))
+carried_late cat table x (Some t) v e h =
+    let m = from_map (coerced t.layout (carriers cat table)) (versions_in t) v h in
+    let i : Contains (all_versions x) m.0 = flat_held versions_in x.tables t m.0 (find_held (λ t. t.table == table) x.tables t e).0 m.1 in
+    let l : delta_least x ≤ m.0.ts = least_held (all_versions x) m.0 i in
+    subst (λ (w : RowVersion). delta_least x ≤ w.ts) m.2 l
+
+-- one delta's versions in a range stand at or above its least timestamp
+alone_late : (cat : Catalogue) (shelf : List Delta) (id : ℕ) (r : Range) (table m : ℕ) (o : Option Delta) → delta_with shelf id ≡ o → option_map_or (λ x. nat_le (delta_least x) m) o false ≡ false
+    → AllByRecursion (λ v. m < v.ts) (clip r (merge (map (carried_versions cat table) (cons_option o []))))
+unfolding merge
+alone_late cat shelf id r table m None e h = tt
+alone_late cat shelf id r table m (Some x) e h = all_from (λ v. m < v.ts) (clip r (put_versions (carried_versions cat table x) [])) (λ v k.
+    let late : m < delta_least x = leb-false (delta_least x) m h in
+    elim (puts_from (carried_versions cat table x) [] v (from-filter (λ v. in_range v.key r) (put_versions (carried_versions cat table x) []) v k).0) [
+      | inl i ↦ (let l : delta_least x ≤ v.ts = carried_late cat table x (table_of x table) v refl i in omega (arith, l, late))
+      | inr i ↦ absurd (omega (arith, i.1))
+    ])
+
+-- the deltas of a major compaction's partition that are no inputs are above the minimum
+major_rest : (d : Durable) (p : Part) (r : Range) → AllByRecursion (λ id. IsTrue (list_any (λ i. i == id) (inputs_of d p major)) ⊎ ((table : ℕ) → AllByRecursion (λ v. d.minimum < v.ts) (merged_in d.catalogue d.shelf (id ∷ []) r table))) p.ids
+major_rest d p r = all_from (λ id. IsTrue (list_any (λ i. i == id) (inputs_of d p major)) ⊎ ((table : ℕ) → AllByRecursion (λ v. d.minimum < v.ts) (merged_in d.catalogue d.shelf (id ∷ []) r table))) p.ids
+    (λ id h. pick (option_map_or (λ x. nat_le (delta_least x) d.minimum) (delta_with d.shelf id) false)
+    (λ e. inl (any_from (inputs_of d p major) id (in-filter (λ id. option_map_or (λ x. nat_le (delta_least x) d.minimum) (delta_with d.shelf id) false) p.ids id h e)))
+    (λ e. inr (λ table. alone_late d.catalogue d.shelf id r table d.minimum (delta_with d.shelf id) refl e)))
+
+-- ---- the commands
+
+inputs_listed : (s : State) (n : ℕ) (p : Part) (mode : Mode) → unknown_in p.ids mode ≡ None → ListsAll p.ids (inputs_of s.durable p mode)
+inputs_listed s n p (minor named) e = named_listed p.ids named e
+inputs_listed s n p major e = filtered_listed (λ id. option_map_or (λ x. nat_le (delta_least x) s.durable.minimum) (delta_with s.durable.shelf id) false) p.ids
+
+rest_stands : (d : Durable) (p : Part) (r : Range) (mode : Mode) → IsTrue (is_major_mode mode)
+    → AllByRecursion (λ id. IsTrue (list_any (λ i. i == id) (inputs_of d p mode)) ⊎ ((table : ℕ) → AllByRecursion (λ v. d.minimum < v.ts) (merged_in d.catalogue d.shelf (id ∷ []) r table))) p.ids
+rest_stands d p r (minor named) m = absurd (false≢true m)
+rest_stands d p r major m = major_rest d p r
+
+job_begun_stands : (s : State) (n : ℕ) (p : Part) (r : Range) (mode : Mode) → slice_get s.durable.parts n ≡ Some p → slice_get (ranges_of s.durable) n ≡ Some r → unknown_in p.ids mode ≡ None → IsLawfulPart s.durable
+    → JobStands s.durable (job_for s.durable p r mode) × JobBegan s.durable (job_for s.durable p r mode)
+job_begun_stands s n p r mode e f known lawful =
+    let d = s.durable in
+    let j = job_for d p r mode in
+    let ps = d.parts in
+    let rs = ranges_of d in
+    let tiles = tiles_of d lawful in
+    let apart = chosen_apart n ps rs p r (λ key. tile_sole key (lows_of ps) tiles) (as_many ps) e f in
+    let lows = all_have_low ps (tile_rises (lows_of ps) tiles) in
+    let listed = inputs_listed s n p mode known in (
+      each_zipped (StandsAt d j) ps rs (both_each (IsItOr p r) (λ q t. HasLow t) (StandsAt d j) ps rs
+          (λ q t a low l. elim a [
+            | inl k ↦ (
+              subst (λ (x : Part). ListsAll x.ids j.inputs) (sym k.0) listed,
+              (λ m. subst (λ (x : Part). AllByRecursion (λ id. IsTrue (list_any (λ i. i == id) j.inputs) ⊎ ((table : ℕ) → AllByRecursion (λ v. j.minimum < v.ts) (merged_in d.catalogue d.shelf (id ∷ []) t table))) x.ids)
+                  (sym k.0) (rest_stands d p t mode m)),
+            )
+            | inr f ↦ absurd (f (meets-by t.low t r low (in_lies t.low t r l low)))
+          ]) apart lows),
+      record {
+        range = each_zipped (λ q t. IsWholeIn j t) ps rs (each_as (IsItOr p r) (λ q t. IsWholeIn j t) ps rs (λ q t a m. elim a [ inl k ↦ subst (λ (x : Range). lies_in x r ≡ true) (sym k.1) (lies_itself r) | inr f ↦ absurd (f m) ]) apart);
+        catalogue = as_it_was;
+        lawful = lawful.manifest.catalogue;
+        inputs = all_from (AreLawfulTables d.catalogue) (deltas_of d.shelf j.inputs) (λ x h.
+            let m = from_filter_map (delta_with d.shelf) j.inputs x h in all_at (AreLawfulTables d.catalogue) d.shelf x lawful.shelf (find_held (λ y. y.id == m.0) d.shelf x m.2).0);
+        minimum = omega arith;
+        taken = omega arith;
+      },
+    )
+
+part_job_is : (d : Durable) (n : ℕ) (mode : Mode) (o : Option Part) (q : Option Range) (j : Job) → slice_get d.parts n ≡ o → slice_get (ranges_of d) n ≡ q → option_and_then (λ p. option_map (λ r. job_for d p r mode) q) o ≡ Some j
+    → (p : Part) × (r : Range) × (slice_get d.parts n ≡ Some p) × (slice_get (ranges_of d) n ≡ Some r) × (job_for d p r mode ≡ j)
+part_job_is d n mode None q j e f g = cc
+part_job_is d n mode (Some p) None j e f g = cc
+part_job_is d n mode (Some p) (Some r) j e f g = (p, r, e, f, cc)
+
+pub job_begin_keeps : (n : ℕ) (mode : Mode) → KeepsDoing (do_job_begin n mode)
+job_begin_keeps n mode feed fs s s' a b good e d =
+    let u = unrefused s (do_job_begin n mode) e in
+    let k = part_job_is s.durable n mode (slice_get s.durable.parts n) (slice_get (ranges_of s.durable) n) d.0 refl refl d.1 in
+    let known : unknown_in k.0.ids mode ≡ None = none_mapped no_such_delta (unknown_in k.0.ids mode) (ap (λ (o : Option Part). option_map no_such_delta (option_and_then (λ p. unknown_in p.ids mode) o)) (sym k.2) ∙ u.delta) in (
+      fs,
+      subst (λ (x : State). IsGood feed x fs) (sym d.3) (record {
+        short = good.short;
+        lawful = good.lawful;
+        fronts = good.fronts;
+        sound = good.sound;
+        ready = record {
+          places = good.ready.places;
+          pending = good.ready.pending;
+          job = subst (λ (j : Job). JobStands s.durable j × JobBegan s.durable j) k.4 (job_begun_stands s n k.0 k.1 mode k.2 k.3 known good.lawful);
+        };
+      }),
+    )
+
+min_right : (a b : ℕ) → min a b ≤ b
+min_right a b = omega arith
+
+went_on : (s : State) (n : ℕ) (j : Job) → JobStands s.durable j × JobBegan s.durable j → JobStands s.durable (job_after s n j) × JobBegan s.durable (job_after s n j)
+went_on s n j h = (
+  h.0,
+  record {
+    range = h.1.range;
+    catalogue = h.1.catalogue;
+    lawful = h.1.lawful;
+    inputs = h.1.inputs;
+    minimum = h.1.minimum;
+    taken = min_right (j.taken + n) (job_keys s.durable.shelf j);
+  },
+)
+
+pub job_step_keeps : (n : ℕ) → KeepsDoing (do_job_step n)
+job_step_keeps n feed fs s s' a b good e d = (
+  fs,
+  subst (λ (x : State). IsGood feed x fs) (sym d.3) (record {
+    short = good.short;
+    lawful = good.lawful;
+    fronts = good.fronts;
+    sound = good.sound;
+    ready = record {
+      places = good.ready.places;
+      pending = good.ready.pending;
+      job = went_on s n d.0 (subst (λ (o : Option Job). IfSome o (λ j. JobStands s.durable j × JobBegan s.durable j)) d.1 good.ready.job);
+    };
+  }),
+)

@@ -1,0 +1,136 @@
+-- Facts about lists that several proofs need: what holds of each element, and what is found.
+use Rattle.std.proofs.Common.{Bool, List, [], ap, arith, cond, false, inl, inr, refl, subst, suc, sym, true, zero, ◌++◌, ◌∙◌, ◌∷◌, ◌≡◌}
+use Rattle.std.specs.Prelude.{Contains, None, Option, Some, filter, filter_map, find, option_map, ◌⊎◌}
+use Rattle.std.specs.List.{AllByRecursion, cons_option, list_any}
+use Rattle.std.proofs.lemmas.Bool.{false≢true, or_parts}
+
+-- ---- what holds of each
+
+pub all_append : {A : Type 0} (P : A → Type 0) (xs ys : List A) → AllByRecursion P xs → AllByRecursion P ys → AllByRecursion P (xs ++ ys)
+all_append P [] ys a b = b
+all_append P (x ∷ xs) ys a b = (a.0, all_append P xs ys a.1 b)
+
+pub all_front : {A : Type 0} (P : A → Type 0) (xs ys : List A) → AllByRecursion P (xs ++ ys) → AllByRecursion P xs
+all_front P [] ys a = tt
+all_front P (x ∷ xs) ys a = (a.0, all_front P xs ys a.1)
+
+pub all_rest : {A : Type 0} (P : A → Type 0) (xs ys : List A) → AllByRecursion P (xs ++ ys) → AllByRecursion P ys
+all_rest P [] ys a = a
+all_rest P (x ∷ xs) ys a = all_rest P xs ys a.1
+
+pub all_map : {A : Type 0} (P Q : A → Type 0) (xs : List A) → ((x : A) → P x → Q x) → AllByRecursion P xs → AllByRecursion Q xs
+all_map P Q [] f a = tt
+all_map P Q (x ∷ xs) f a = (f x a.0, all_map P Q xs f a.1)
+
+pub all_both : {A : Type 0} (P Q R : A → Type 0) (xs : List A) → ((x : A) → P x → Q x → R x) → AllByRecursion P xs → AllByRecursion Q xs → AllByRecursion R xs
+all_both P Q R [] f a b = tt
+all_both P Q R (x ∷ xs) f a b = (f x a.0 b.0, all_both P Q R xs f a.1 b.1)
+
+pub all_at : {A : Type 0} (P : A → Type 0) (xs : List A) (x : A) → AllByRecursion P xs → Contains xs x → P x
+all_at P [] x a (k, l, e) = absurd (omega (arith, l))
+all_at P (y ∷ ys) x a (zero, l, e) = subst P e a.0
+all_at P (y ∷ ys) x a (suc k, l, e) = all_at P ys x a.1 (k, omega (arith, l), e)
+
+pub all_from : {A : Type 0} (P : A → Type 0) (xs : List A) → ((x : A) → Contains xs x → P x) → AllByRecursion P xs
+all_from P [] f = tt
+all_from P (x ∷ xs) f = (f x (zero, omega arith, refl), all_from P xs (λ y (k, l, e). f y (suc k, omega (arith, l), e)))
+
+contains_cons : {A : Type 0} (y : A) (xs : List A) (x : A) → Contains xs x → Contains (y ∷ xs) x
+contains_cons y xs x (k, l, e) = (suc k, omega (arith, l), e)
+
+pub contains_front : {A : Type 0} (xs ys : List A) (x : A) → Contains xs x → Contains (xs ++ ys) x
+contains_front [] ys x (k, l, e) = absurd (omega (arith, l))
+contains_front (y ∷ xs) ys x (zero, l, e) = (zero, omega arith, e)
+contains_front (y ∷ xs) ys x (suc k, l, e) = contains_cons y (xs ++ ys) x (contains_front xs ys x (k, omega (arith, l), e))
+
+pub contains_rest : {A : Type 0} (xs ys : List A) (x : A) → Contains ys x → Contains (xs ++ ys) x
+contains_rest [] ys x k = k
+contains_rest (y ∷ xs) ys x k = contains_cons y (xs ++ ys) x (contains_rest xs ys x k)
+
+pub all_contained : {A : Type 0} (xs : List A) → AllByRecursion (Contains xs) xs
+all_contained xs = all_from (Contains xs) xs (λ x h. h)
+
+filter_by : {A : Type 0} (P : A → Type 0) (x : A) (xs : List A) (b : Bool) → P x → AllByRecursion P xs → AllByRecursion P (cond b (x ∷ xs) xs)
+filter_by P x xs true p a = (p, a)
+filter_by P x xs false p a = a
+
+pub all_filter : {A : Type 0} (P : A → Type 0) (test : A → Bool) (xs : List A) → AllByRecursion P xs → AllByRecursion P (filter test xs)
+all_filter P test [] a = tt
+all_filter P test (x ∷ xs) a = filter_by P x (filter test xs) (test x) a.0 (all_filter P test xs a.1)
+
+-- ---- what is found
+
+found_by : {A : Type 0} (P : A → Type 0) (test : A → Bool) (x y : A) (o : Option A) (b : Bool) → test x ≡ b → P x → (o ≡ Some y → P y × (test y ≡ true)) → cond b (Some x) o ≡ Some y → P y × (test y ≡ true)
+found_by P test x y o true e p f h = let d : x ≡ y = cc in subst (λ z. P z × (test z ≡ true)) d (p, e)
+found_by P test x y o false e p f h = f h
+
+-- what is found passes the test, and has what all have
+pub find_all : {A : Type 0} (P : A → Type 0) (test : A → Bool) (xs : List A) (y : A) → AllByRecursion P xs → find test xs ≡ Some y → P y × (test y ≡ true)
+find_all P test [] y a h = cc
+find_all P test (x ∷ xs) y a h = found_by P test x y (find test xs) (test x) refl a.0 (find_all P test xs y a.1) h
+
+none_by : {A : Type 0} (test : A → Bool) (x : A) (o : Option A) (b : Bool) → test x ≡ b → cond b (Some x) o ≡ None → (test x ≡ false) × (o ≡ None)
+none_by test x o true e h = cc
+none_by test x o false e h = (e, h)
+
+-- where nothing is found no element passes
+pub find_none : {A : Type 0} (test : A → Bool) (xs : List A) → find test xs ≡ None → AllByRecursion (λ x. test x ≡ false) xs
+find_none test [] h = tt
+find_none test (x ∷ xs) h = let r = none_by test x (find test xs) (test x) refl h in (r.0, find_none test xs r.1)
+
+pub any_none : {A : Type 0} (test : A → Bool) (xs : List A) → list_any test xs ≡ false → AllByRecursion (λ x. test x ≡ false) xs
+any_none test [] h = tt
+any_none test (x ∷ xs) h = let r = or_parts (test x) (list_any test xs) h in (r.0, any_none test xs r.1)
+
+pub none_mapped : {A B : Type 0} (f : A → B) (o : Option A) → option_map f o ≡ None → o ≡ None
+none_mapped f None e = refl
+none_mapped f (Some x) e = cc
+
+given_by : {B : Type 0} (o : Option B) (xs ys : List B) → cons_option o (xs ++ ys) ≡ cons_option o xs ++ ys
+given_by None xs ys = refl
+given_by (Some x) xs ys = refl
+
+pub filter_map-append : {A B : Type 0} (f : A → Option B) (xs ys : List A) → filter_map f (xs ++ ys) ≡ filter_map f xs ++ filter_map f ys
+filter_map-append f [] ys = refl
+filter_map-append f (x ∷ xs) ys = ap (cons_option (f x)) (filter_map-append f xs ys) ∙ given_by (f x) (filter_map f xs) (filter_map f ys)
+
+-- ---- what is in a filtered list
+
+given_cases : {B : Type 0} (o : Option B) (ys : List B) (y : B) → Contains (cons_option o ys) y → (o ≡ Some y) ⊎ Contains ys y
+given_cases None ys y h = inr h
+given_cases (Some x) ys y (zero, l, e) = inl (ap Some e)
+given_cases (Some x) ys y (suc k, l, e) = inr (k, omega (arith, l), e)
+
+given_in : {B : Type 0} (o : Option B) (ys : List B) (y : B) → (o ≡ Some y) ⊎ Contains ys y → Contains (cons_option o ys) y
+given_in None ys y (inl e) = cc
+given_in None ys y (inr h) = h
+given_in (Some x) ys y (inl e) = let d : x ≡ y = cc in (zero, omega arith, d)
+given_in (Some x) ys y (inr h) = contains_cons x ys y h
+
+pub from_filter_map : {A B : Type 0} (f : A → Option B) (xs : List A) (y : B) → Contains (filter_map f xs) y → (x : A) × Contains xs x × (f x ≡ Some y)
+from_filter_map f [] y h = absurd (omega (arith, h.1))
+from_filter_map f (x ∷ xs) y h = elim (given_cases (f x) (filter_map f xs) y h) [
+  | inl e ↦ (x, (zero, omega arith, refl), e)
+  | inr i ↦ (let r = from_filter_map f xs y i in (r.0, contains_cons x xs r.0 r.1, r.2))
+]
+
+pub in_filter_map : {A B : Type 0} (f : A → Option B) (xs : List A) (x : A) (y : B) → Contains xs x → f x ≡ Some y → Contains (filter_map f xs) y
+in_filter_map f [] x y h e = absurd (omega (arith, h.1))
+in_filter_map f (z ∷ xs) x y (zero, l, d) e = given_in (f z) (filter_map f xs) y (inl (ap f d ∙ e))
+in_filter_map f (z ∷ xs) x y (suc k, l, d) e = given_in (f z) (filter_map f xs) y (inr (in_filter_map f xs x y (k, omega (arith, l), d) e))
+
+pub mapped_some : {A B : Type 0} (f : A → B) (o : Option A) (y : B) → option_map f o ≡ Some y → (x : A) × (o ≡ Some x) × (f x ≡ y)
+mapped_some f None y e = cc
+mapped_some f (Some x) y e = (x, refl, cc)
+
+-- what is found is an element that passes
+pub find_held : {A : Type 0} (test : A → Bool) (xs : List A) (x : A) → find test xs ≡ Some x → Contains xs x × (test x ≡ true)
+find_held test xs x e = find_all (Contains xs) test xs x (all_contained xs) e
+
+held_by : {A : Type 0} (test : A → Bool) (xs : List A) (x : A) (o : Option A) → find test xs ≡ o → Contains xs x → test x ≡ true → (y : A) × (find test xs ≡ Some y)
+held_by test xs x (Some y) f h e = (y, f)
+held_by test xs x None f h e = let d : test x ≡ false = all_at (λ z. test z ≡ false) xs x (find_none test xs f) h in absurd (false≢true (sym d ∙ e))
+
+-- where an element passes one is found
+pub held_is_found : {A : Type 0} (test : A → Bool) (xs : List A) (x : A) → Contains xs x → test x ≡ true → (y : A) × (find test xs ≡ Some y)
+held_is_found test xs x h e = held_by test xs x (find test xs) refl h e

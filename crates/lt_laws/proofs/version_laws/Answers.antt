@@ -1,0 +1,5 @@
+use Rattle.lt_laws.proofs.ListLaws.{version_laws}
+use Rattle.lt_laws.proofs.version_laws.Goals as goal
+
+pub returns : goal.returns
+returns c = version_laws
