@@ -1,2 +1,5 @@
 pub mod View
+pub mod Reading
+pub mod Keys
+pub mod KeyCodec
 pub mod formers

@@ -1,22 +1,34 @@
-//! The plain types of the store: lists, texts, values, kinds, keys, ranges and leaves.
+//! The plain types of the store: lists, texts, values, kinds, keys with their bytes, ranges, leaves and cells.
 //!
-//! Contracts see a list as the list of its items, and a value, kind, key or range by its view in `specs/View`.
+//! Contracts see a list as the list of its items, a text as its bytes, and every other type by its view in `specs/View`.
+//! What allocates answers `Memory` where none is left. Each call takes at most time linear in what it reads and makes.
 #![tactic(auto)]
 
 mod key;
 mod kind;
+mod leaf;
 mod list;
 mod memory;
+mod reader;
+#[cfg(test)]
+mod tests;
 mod text;
 mod value;
+mod writer;
 
-pub use key::{Key, KeyBytes, KeyKinds, KeyPart, KeyParts, Range};
+pub use key::{
+    DecodeRefusal, Key, KeyBytes, KeyKinds, KeyPart, KeyParts, KeyRefusal, MAX_KEY, Range,
+    decode_key, encode_key, encode_prefix,
+};
 pub use kind::{FieldKinds, Kind, Names};
-pub use list::List;
+pub use leaf::{Cell, Cells, Layout, Leaf, Path, Scalar};
+pub use list::{List, ListItem};
 pub use lt_model::{KeyKind, Op, Rank};
 pub use memory::Memory;
+pub use reader::{Reader, Short};
 pub use text::{NotUtf8, Text, TextRefusal};
 pub use value::{Blob, Fields, Row, Settings, Value};
+pub use writer::Writer;
 
 /// A timestamp: changes and checkpoints have one from 1 to 2^63 - 1, and 0 is before all of them.
 pub type Ts = u64;

@@ -1,0 +1,5 @@
+pub mod Utf8
+pub mod KeyText
+pub mod KeyReads
+pub mod KeyCodecs
+pub mod ViewLaws

@@ -1,0 +1,5 @@
+use Rattle.std.specs.Prelude.{◌≡◌, take}
+use Rattle.lt_core.proofs.kind.+copy.Given as goal
+
+abbrev pub invariant-copy_fields-loop-number : goal.invariant-copy_fields-loop-number
+invariant-copy_fields-loop-number l = l.copies ≡ take l.number-index l.number-items
