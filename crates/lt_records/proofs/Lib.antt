@@ -1,0 +1,5 @@
+pub mod Depth
+pub mod Fixtures
+pub mod Front
+pub mod Loop
+pub mod Spellings
