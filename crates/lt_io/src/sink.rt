@@ -1,0 +1,25 @@
+//! Bytes that go out.
+
+ghost use Rattle.std.specs.Prelude.{◌<◌, ◌≤◌, ℕ, List, Option, length, IfOk};
+ghost use Rattle.std.specs.Io.KnownBytes.{WriteAppends};
+ghost use Rattle.lt_model.specs.Disk.{HasCause};
+ghost use Rattle.lt_model.specs.Outside.{StaysTold};
+
+use crate::faults::WriteFault;
+
+/// Bytes that go out.
+pub trait Sink {
+    /// The bytes that it holds, where they are told.
+    ghost held: { Self → Option (List ℕ) };
+
+    /// How often it failed.
+    ghost faults: { Self → ℕ };
+
+    /// Takes some of the bytes, from the first on, and tells how many: at least one.
+    fn write(&mut self, bytes: &[u8]) -> Result<usize, WriteFault>
+        requires { 0 < length bytes.now }
+        ensures bound { IfOk result (λ n. (0 < n) × (n ≤ length bytes.now)) }
+        ensures bytes { WriteAppends (held self.old) (held self.new) result bytes.now }
+        ensures stays { StaysTold (held self.old) (held self.new) }
+        ensures cause { HasCause (faults self.old) (faults self.new) result };
+}
