@@ -1,0 +1,5 @@
+pub mod Plans
+pub mod Histories
+pub mod Overwrites
+pub mod Images
+pub mod Crashes

@@ -1,0 +1,161 @@
+//! An adapter over the file store.lt of the current folder. It tells neither its bytes nor its images. A read, a write or a
+//! sync is one call of the system, or a few where that does it in part.
+
+ghost use Rattle.std.specs.Prelude.{◌≡◌, None};
+ghost use Rattle.lt_model.specs.Disk.{AreBytes};
+
+use crate::disk::Disk;
+use crate::fault::DiskFault;
+use std::fs::{File, OpenOptions};
+use std::io;
+use std::io::ErrorKind;
+use std::os::unix::fs::FileExt;
+use std::rt::Files;
+
+const STORE: &str = "store.lt";
+
+/// A disk over the file store.lt, which its first call opens, and makes empty where there is none. An opening that fails is
+/// that call's fault, and the next call opens again.
+#[derive(Drop)]
+pub struct FileDisk<R> {
+    rt: R,
+    file: Option<File>,
+    faults: u64,
+    write_faults: u64,
+    reads: u64,
+}
+
+impl<R> FileDisk<R> {
+    ghost use Rattle.lt_disk.specs.Adapters.{file_disk_faults, file_disk_write_faults, file_disk_reads};
+
+    pub fn new(rt: R) -> FileDisk<R>
+        ensures faults { file_disk_faults result ≡ 0 }
+        ensures write_faults { file_disk_write_faults result ≡ 0 }
+        ensures reads { file_disk_reads result ≡ 0 }
+    {
+        FileDisk {
+            rt,
+            file: None,
+            faults: 0,
+            write_faults: 0,
+            reads: 0,
+        }
+    }
+}
+
+impl<R: Files<File = File>> Disk for FileDisk<R> {
+    ghost use Rattle.lt_disk.specs.Adapters.{file_disk_faults, file_disk_write_faults, file_disk_reads};
+
+    ghost told = { λ _. None };
+
+    ghost moment = { λ _. 0 };
+
+    ghost may_leave = { λ _ c. AreBytes c };
+
+    ghost left_since = { λ _ _ c. AreBytes c };
+
+    ghost faults = { file_disk_faults };
+
+    ghost write_faults = { file_disk_write_faults };
+
+    ghost reads = { file_disk_reads };
+
+    fn read_at(&mut self, place: u64, buf: &mut [u8]) -> Result<(), DiskFault> {
+        self.reads = self.reads.saturating_add(1);
+        if read(&self.rt, &mut self.file, place, buf).is_err() {
+            self.faults = self.faults.saturating_add(1);
+            return Err(DiskFault);
+        }
+        Ok(())
+    }
+
+    #[tactic(auto, using(crate::proofs::Images::any_image_follows))]
+    fn write_at(&mut self, place: u64, bytes: &[u8]) -> Result<(), DiskFault> {
+        if write(&self.rt, &mut self.file, place, bytes).is_err() {
+            self.faults = self.faults.saturating_add(1);
+            self.write_faults = self.write_faults.saturating_add(1);
+            return Err(DiskFault);
+        }
+        Ok(())
+    }
+
+    fn sync(&mut self) -> Result<(), DiskFault> {
+        if sync(&self.rt, &mut self.file).is_err() {
+            self.faults = self.faults.saturating_add(1);
+            self.write_faults = self.write_faults.saturating_add(1);
+            return Err(DiskFault);
+        }
+        Ok(())
+    }
+
+    ghost counts_now = { λ _ _ _ _ now. now };
+
+    ghost only_now = { λ _ _ left. left };
+
+    ghost reads_an_image = { λ _. tt };
+}
+
+/// The open file. Where it is opened, its name is put on the disk too.
+fn opened<R: Files<File = File>>(rt: &R, file: Option<File>) -> io::Result<File> {
+    if let Some(file) = file {
+        return Ok(file);
+    }
+    let file = OpenOptions::new()
+        .read(true)
+        .write(true)
+        .create(true)
+        .open(rt, STORE)?;
+    File::open(rt, ".")?.sync_all()?;
+    Ok(file)
+}
+
+fn read<R: Files<File = File>>(
+    rt: &R,
+    slot: &mut Option<File>,
+    place: u64,
+    buf: &mut [u8],
+) -> io::Result<()> {
+    let file = opened(rt, slot.take())?;
+    let outcome = fill(&file, place, buf);
+    *slot = Some(file);
+    outcome
+}
+
+fn write<R: Files<File = File>>(
+    rt: &R,
+    slot: &mut Option<File>,
+    place: u64,
+    bytes: &[u8],
+) -> io::Result<()> {
+    let file = opened(rt, slot.take())?;
+    let outcome = file.write_all_at(bytes, place);
+    *slot = Some(file);
+    outcome
+}
+
+fn sync<R: Files<File = File>>(rt: &R, slot: &mut Option<File>) -> io::Result<()> {
+    let file = opened(rt, slot.take())?;
+    let outcome = file.sync_all();
+    *slot = Some(file);
+    outcome
+}
+
+/// Fills the buffer from a place on, and with 0 past the end of the file. A place from 2^63 on is refused by the system.
+fn fill(file: &File, place: u64, buf: &mut [u8]) -> io::Result<()> {
+    let mut at = 0;
+    for _ in 0..u64::MAX {
+        if at >= buf.len() {
+            return Ok(());
+        }
+        match file.read_at(&mut buf[at..], place.wrapping_add(at as u64)) {
+            Ok(0) => {
+                buf[at..].fill(0);
+                return Ok(());
+            }
+            Ok(n) => at += n,
+            Err(error) if error.kind() == ErrorKind::Interrupted => {}
+            Err(error) => return Err(error),
+        }
+    }
+    Err(ErrorKind::Other.into())
+}
