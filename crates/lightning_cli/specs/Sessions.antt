@@ -1,0 +1,27 @@
+-- What a session of the program stands for, and what it answers.
+use Rattle.std.specs.Prelude.{List, Option, map, ℕ, ◌≡◌, ◌≤◌}
+use Rattle.lt_model.specs.Log.{Item}
+use Rattle.lt_model.specs.Fair.{Feed}
+use Rattle.lt_model.specs.Outside.{FeedGrows, StaysTold}
+use Rattle.lt_model.specs.Script.{Command}
+use Rattle.lt_model.specs.Run.{CommandRuns, Counts}
+use Rattle.lt_model.specs.Program.{run_cause}
+use Rattle.lt_model.specs.OneTable.{session_after}
+use Rattle.lt_records.specs.View.{view_item}
+use Rattle.lightning_cli.specs.declared.session.Session.{Session}
+
+-- the items that were taken
+abbrev pub taken : Session → List Item
+taken s = map view_item s.items.items
+
+-- A text answers a command, whatever else was counted: the feed's count went so, and no write failed.
+abbrev pub Answered : ℕ → ℕ → List Item → List Item → Command → Feed → List ℕ → Type 0
+Answered before now old new c f text = (n m : Counts) → n.feed ≡ before → m.feed ≡ now → m.writes ≡ n.writes
+    → CommandRuns run_cause n (session_after old) c (record { feed = f; counts = m; text = text; state = session_after new })
+
+-- what some calls leave of a feed: it grew, and no count fell
+pub record FeedGoes (told told' : Option Feed) (known known' faults faults' : ℕ) : Type 0 where
+  pub grows : FeedGrows told told'
+  pub stays : StaysTold told told'
+  pub more : known ≤ known'
+  pub later : faults ≤ faults'

@@ -1,0 +1,48 @@
+//! A read replica that follows one stream of a change log and answers scans at a timestamp.
+#![tactic(auto)]
+
+mod line;
+mod output;
+mod program;
+mod scan;
+mod serve;
+mod server;
+mod session;
+#[cfg(test)]
+mod tests;
+
+use crate::program::run;
+use lt_disk::FileDisk;
+use lt_io::{FileFeed, StdSink, StdSource};
+use std::process::ExitCode;
+use std::{env, io};
+
+/// Runs over the files of the current folder, from standard input to standard output.
+fn main(rt: HostRuntime) -> ExitCode {
+    let mut disk = FileDisk::new(rt);
+    let mut feed = FileFeed::new(rt);
+    let mut script = StdSource::new(rt.stdin());
+    let mut out = StdSink::new(rt.stdout());
+    let status = match words(&rt) {
+        Ok(words) => run(
+            rt.alloc(),
+            words.as_slice(),
+            &mut disk,
+            &mut feed,
+            &mut script,
+            &mut out,
+        ),
+        Err(error) if error.kind() == io::ErrorKind::OutOfMemory => 10,
+        Err(_) => run(rt.alloc(), &[], &mut disk, &mut feed, &mut script, &mut out),
+    };
+    ExitCode::from(status)
+}
+
+/// The words behind the program's name. An `Err` is want of memory, or a word that is not UTF-8.
+fn words(rt: &HostRuntime) -> io::Result<Vec<String>> {
+    let mut words = Vec::new(rt.alloc());
+    for word in env::args(rt)?.skip(1) {
+        words.push(word)?;
+    }
+    Ok(words)
+}

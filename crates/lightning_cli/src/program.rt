@@ -1,0 +1,70 @@
+//! The program's top call: what it does by its words, and the status that it ends with.
+
+ghost use Rattle.std.specs.Prelude.{◌≡◌, ◌≤◌, ◌⊎◌, false, map, string_bytes, true};
+ghost use Rattle.lt_model.specs.Disk.{Rose};
+ghost use Rattle.lt_model.specs.OneTable.{Did, is_run, is_status};
+ghost use Rattle.lt_model.specs.Outside.{StaysTold};
+ghost use Rattle.lt_model.specs.Program.{IsCut, Tells, Told, counts_of};
+
+use crate::output::finish;
+use crate::serve::serve;
+use crate::session::{AttachRefusal, Session};
+use lt_disk::Disk;
+use lt_io::{Feed, Sink, Source};
+use std::alloc::Global;
+
+const USAGE: &[u8] = b"usage: lightning init LIMIT | run | gen N\n";
+
+const FEED_FAULT: &[u8] = b"stopped 7 FeedFault\n";
+
+const FEED_MISMATCH: &[u8] = b"stopped 8 FeedMismatch 0\n";
+
+/// Runs the program by its words, those behind its name, and gives its exit status: 0, 2, 3, 4, 7, 8, 9 or 10.
+pub fn run<D: Disk, F: Feed, S: Source, K: Sink>(
+    alloc: Global,
+    words: &[String],
+    disk: &mut D,
+    feed: &mut F,
+    script: &mut S,
+    out: &mut K,
+) -> u8
+    // What was taken of the script, what was written, and what each line did: one trace, over objects that tell their content.
+    ensures did { (old new : Told)
+        → Tells (F.told feed.old) (S.left script.old) (K.held out.old) (counts_of D.faults D.write_faults D.moment F.faults K.faults disk.old feed.old out.old) old
+        → Tells (F.told feed.new) (S.left script.new) (K.held out.new) (counts_of D.faults D.write_faults D.moment F.faults K.faults disk.new feed.new out.new) new
+        → Did (map (λ w. string_bytes w) words.now) old new result }
+
+    // Each status by its cause, whatever the objects tell.
+    ensures statuses { is_status result ≡ true }
+    ensures usage { result ≡ 2 → is_run (map (λ w. string_bytes w) words.now) ≡ false }
+    ensures other_words { is_run (map (λ w. string_bytes w) words.now) ≡ false → (result ≡ 2) ⊎ IsCut result }
+    ensures script_fault { result ≡ 3 → Rose (S.faults script.old) (S.faults script.new) }
+    ensures out_fault { result ≡ 4 → Rose (K.faults out.old) (K.faults out.new) }
+    ensures feed_fault { result ≡ 7 → Rose (F.faults feed.old) (F.faults feed.new) }
+
+    // The disk is not used, no count falls, and no call changes whether an object tells its content.
+    ensures disk { disk.new ≡ disk.old }
+    ensures later { (F.faults feed.old ≤ F.faults feed.new) × (S.faults script.old ≤ S.faults script.new) × (K.faults out.old ≤ K.faults out.new) }
+    ensures told { StaysTold (F.told feed.old) (F.told feed.new) × StaysTold (S.left script.old) (S.left script.new) × StaysTold (K.held out.old) (K.held out.new) }
+{
+    let _ = disk;
+    if !asks_run(words) {
+        return finish(out, USAGE, 2);
+    }
+    match Session::attach(alloc, feed) {
+        Ok(session) => serve(alloc, session, feed, script, out),
+        Err(AttachRefusal::Mismatch) => finish(out, FEED_MISMATCH, 8),
+        Err(AttachRefusal::Feed) => finish(out, FEED_FAULT, 7),
+        Err(AttachRefusal::Memory) => 10,
+    }
+}
+
+/// Whether the words are the one that runs a script.
+fn asks_run(words: &[String]) -> bool
+    ensures { result ≡ is_run (map (λ w. string_bytes w) words.now) }
+{
+    match words {
+        [word] => word.as_bytes() == b"run".as_slice(),
+        _ => false,
+    }
+}

@@ -1,0 +1,189 @@
+//! A run of a script: reads it in large pieces, answers each line that a piece ends, and writes the replies after each piece.
+//!
+//! A run ends where the script does, where it is too long, or where a device fails or memory is lacking.
+
+ghost use Rattle.std.specs.Prelude.{◌≡◌, ◌+◌, ◌<◌, ◌≤◌, ◌^◌, ◌++◌, ◌⊎◌, [], ℕ, List, Some, length};
+ghost use Rattle.lt_model.specs.Disk.{Rose};
+ghost use Rattle.lt_model.specs.Program.{Told};
+ghost use Rattle.lightning_cli.specs.Serving.{Goes, IsRunStatus, IsServing, SameDisk, Sees, Served};
+ghost use Rattle.lt_model.specs.OneTable.{HasTaken};
+ghost use Rattle.lightning_cli.specs.Sessions.{FeedGoes, taken};
+ghost use Rattle.lightning_cli.specs.Turns.{IfMore, IfOver};
+
+use crate::output::finish;
+use crate::server::Server;
+use crate::session::Session;
+use lt_io::{Feed, ReadFault, Sink, Source};
+use std::alloc::Global;
+
+/// The longest script, in bytes.
+pub const MAX_SCRIPT: u64 = 4294967296;
+
+/// Each turn takes a byte at least.
+const MOST_TURNS: u64 = MAX_SCRIPT + 1;
+
+/// How much is read at once, in bytes.
+const PIECE: usize = 65536;
+
+const SCRIPT_FAULT: &[u8] = b"stopped 3 ScriptFault\n";
+
+const TOO_LONG: &[u8] = b"stopped 9 TooLong\n";
+
+/// How a turn of a run ended: with so many bytes taken, or with the run's status.
+#[derive(Clone, Copy, Debug, PartialEq, Eq)]
+pub enum Turn {
+    More(u64),
+    Over(u8),
+}
+
+/// Answers the line that is open where the script ends, and writes what is left to write.
+fn end<F: Feed, K: Sink>(server: &mut Server, alloc: Global, feed: &mut F, out: &mut K) -> u8
+    requires known { 0 < F.known feed.old }
+    requires written { server.old.replies.items ≡ [] }
+    ensures served { (old mid now : Told) (count : ℕ) → Sees (F.told feed.old) (Some mid.script) (K.held out.old) (F.faults feed.old) (K.faults out.old) mid
+        → Sees (F.told feed.new) (Some now.script) (K.held out.new) (F.faults feed.new) (K.faults out.new) now
+        → mid.script ≡ [] → now.script ≡ [] → SameDisk old.counts now.counts → count ≤ 2 ^ 32
+        → IsServing old mid count (taken server.old.session) server.old.replies.items server.old.line.items → Served old now result }
+    ensures cause { result ≡ 4 → Rose (K.faults out.old) (K.faults out.new) }
+    ensures statuses { (result ≡ 0) ⊎ (result ≡ 4) ⊎ (result ≡ 10) }
+    ensures feed { FeedGoes (F.told feed.old) (F.told feed.new) (F.known feed.old) (F.known feed.new) (F.faults feed.old) (F.faults feed.new) }
+    ensures out { Goes (K.held out.old) (K.held out.new) (K.faults out.old) (K.faults out.new) }
+{
+    if server.answer(alloc, feed).is_err() {
+        return 10;
+    }
+    finish(out, server.replies(), 0)
+}
+
+/// Answers the lines that the last lawful bytes of a script end that is too long.
+fn cut<F: Feed, K: Sink>(
+    server: &mut Server,
+    alloc: Global,
+    feed: &mut F,
+    out: &mut K,
+    bytes: &[u8],
+) -> u8
+    requires known { 0 < F.known feed.old }
+    requires written { server.old.replies.items ≡ [] }
+    ensures served { (old mid now : Told) (count : ℕ) (more : List ℕ) → Sees (F.told feed.old) (Some mid.script) (K.held out.old) (F.faults feed.old) (K.faults out.old) mid
+        → Sees (F.told feed.new) (Some now.script) (K.held out.new) (F.faults feed.new) (K.faults out.new) now
+        → mid.script ≡ (bytes.now ++ more) ++ now.script → count + length bytes.now ≡ 2 ^ 32 → 0 < length more → SameDisk old.counts now.counts
+        → IsServing old mid count (taken server.old.session) server.old.replies.items server.old.line.items → Served old now result }
+    ensures cause { result ≡ 4 → Rose (K.faults out.old) (K.faults out.new) }
+    ensures statuses { (result ≡ 4) ⊎ (result ≡ 9) ⊎ (result ≡ 10) }
+    ensures feed { FeedGoes (F.told feed.old) (F.told feed.new) (F.known feed.old) (F.known feed.new) (F.faults feed.old) (F.faults feed.new) }
+    ensures out { Goes (K.held out.old) (K.held out.new) (K.faults out.old) (K.faults out.new) }
+{
+    if server.take(alloc, feed, bytes).is_err() {
+        return 10;
+    }
+    if server.flush(out).is_err() {
+        return 4;
+    }
+    finish(out, TOO_LONG, 9)
+}
+
+/// Takes a piece of the script, and writes the replies to the lines that it ends.
+fn digest<F: Feed, K: Sink>(
+    server: &mut Server,
+    alloc: Global,
+    feed: &mut F,
+    out: &mut K,
+    piece: &[u8],
+) -> Turn
+    requires known { 0 < F.known feed.old }
+    requires written { server.old.replies.items ≡ [] }
+    requires some { 0 < length piece.now }
+    ensures more { IfMore result (λ n. (n ≡ length piece.now) × (server.new.replies.items ≡ [])) }
+    ensures goes_on { (old mid now : Told) (count : ℕ) → Sees (F.told feed.old) (Some mid.script) (K.held out.old) (F.faults feed.old) (K.faults out.old) mid
+        → Sees (F.told feed.new) (Some now.script) (K.held out.new) (F.faults feed.new) (K.faults out.new) now
+        → mid.script ≡ piece.now ++ now.script → IsServing old mid count (taken server.old.session) server.old.replies.items server.old.line.items
+        → IfMore result (λ n. IsServing old now (count + n) (taken server.new.session) [] server.new.line.items) }
+    ensures served { (old mid now : Told) (count : ℕ) → Sees (F.told feed.old) (Some mid.script) (K.held out.old) (F.faults feed.old) (K.faults out.old) mid
+        → Sees (F.told feed.new) (Some now.script) (K.held out.new) (F.faults feed.new) (K.faults out.new) now
+        → mid.script ≡ piece.now ++ now.script → SameDisk old.counts now.counts → IsServing old mid count (taken server.old.session) server.old.replies.items server.old.line.items → IfOver result (Served old now) }
+    ensures cause { IfOver result (λ status. status ≡ 4 → Rose (K.faults out.old) (K.faults out.new)) }
+    ensures statuses { IfOver result (λ status. (status ≡ 4) ⊎ (status ≡ 10)) }
+    ensures feed { FeedGoes (F.told feed.old) (F.told feed.new) (F.known feed.old) (F.known feed.new) (F.faults feed.old) (F.faults feed.new) }
+    ensures out { Goes (K.held out.old) (K.held out.new) (K.faults out.old) (K.faults out.new) }
+{
+    if server.take(alloc, feed, piece).is_err() {
+        return Turn::Over(10);
+    }
+    if server.flush(out).is_err() {
+        return Turn::Over(4);
+    }
+    Turn::More(piece.len() as u64)
+}
+
+/// Takes what the script gives next. So many bytes were taken before.
+fn take_piece<F: Feed, S: Source, K: Sink>(
+    server: &mut Server,
+    alloc: Global,
+    feed: &mut F,
+    script: &mut S,
+    out: &mut K,
+    count: u64,
+) -> Turn
+    requires known { 0 < F.known feed.old }
+    requires written { server.old.replies.items ≡ [] }
+    requires short { count ≤ 2 ^ 32 }
+    ensures more { IfMore result (λ n. (0 < n) × (count + n ≤ 2 ^ 32) × (server.new.replies.items ≡ [])) }
+    ensures goes_on { (old mid now : Told) → Sees (F.told feed.old) (S.left script.old) (K.held out.old) (F.faults feed.old) (K.faults out.old) mid
+        → Sees (F.told feed.new) (S.left script.new) (K.held out.new) (F.faults feed.new) (K.faults out.new) now
+        → IsServing old mid count (taken server.old.session) server.old.replies.items server.old.line.items → IfMore result (λ n. IsServing old now (count + n) (taken server.new.session) [] server.new.line.items) }
+    ensures served { (old mid now : Told) → Sees (F.told feed.old) (S.left script.old) (K.held out.old) (F.faults feed.old) (K.faults out.old) mid
+        → Sees (F.told feed.new) (S.left script.new) (K.held out.new) (F.faults feed.new) (K.faults out.new) now
+        → SameDisk old.counts now.counts → IsServing old mid count (taken server.old.session) server.old.replies.items server.old.line.items → IfOver result (Served old now) }
+    ensures script_fault { IfOver result (λ status. status ≡ 3 → Rose (S.faults script.old) (S.faults script.new)) }
+    ensures out_fault { IfOver result (λ status. status ≡ 4 → Rose (K.faults out.old) (K.faults out.new)) }
+    ensures statuses { IfOver result IsRunStatus }
+    ensures feed { FeedGoes (F.told feed.old) (F.told feed.new) (F.known feed.old) (F.known feed.new) (F.faults feed.old) (F.faults feed.new) }
+    ensures script { Goes (S.left script.old) (S.left script.new) (S.faults script.old) (S.faults script.new) }
+    ensures out { Goes (K.held out.old) (K.held out.new) (K.faults out.old) (K.faults out.new) }
+{
+    let mut buffer = [0u8; PIECE];
+    let n = match script.read(&mut buffer) {
+        Ok(n) => n,
+        Err(ReadFault) => return Turn::Over(finish(out, SCRIPT_FAULT, 3)),
+    };
+    if n == 0 {
+        return Turn::Over(end(server, alloc, feed, out));
+    }
+    let room = (MAX_SCRIPT - count) as usize;
+    if n > room {
+        return Turn::Over(cut(server, alloc, feed, out, &buffer[..room]));
+    }
+    digest(server, alloc, feed, out, &buffer[..n])
+}
+
+/// Runs a script from a session that has taken nothing, and gives the program's status.
+pub fn serve<F: Feed, S: Source, K: Sink>(
+    alloc: Global,
+    session: Session,
+    feed: &mut F,
+    script: &mut S,
+    out: &mut K,
+) -> u8
+    requires known { 0 < F.known feed.old }
+    requires fresh { taken session ≡ [] }
+    ensures served { (old now : Told) → Sees (F.told feed.old) (S.left script.old) (K.held out.old) (F.faults feed.old) (K.faults out.old) old
+        → Sees (F.told feed.new) (S.left script.new) (K.held out.new) (F.faults feed.new) (K.faults out.new) now
+        → SameDisk old.counts now.counts → HasTaken old.feed [] → Served old now result }
+    ensures script_fault { result ≡ 3 → Rose (S.faults script.old) (S.faults script.new) }
+    ensures out_fault { result ≡ 4 → Rose (K.faults out.old) (K.faults out.new) }
+    ensures statuses { IsRunStatus result }
+    ensures feed { FeedGoes (F.told feed.old) (F.told feed.new) (F.known feed.old) (F.known feed.new) (F.faults feed.old) (F.faults feed.new) }
+    ensures script { Goes (S.left script.old) (S.left script.new) (S.faults script.old) (S.faults script.new) }
+    ensures out { Goes (K.held out.old) (K.held out.new) (K.faults out.old) (K.faults out.new) }
+{
+    let mut server = Server::new(alloc, session);
+    let mut count = 0;
+    for _ in 0..MOST_TURNS {
+        match take_piece(&mut server, alloc, feed, script, out, count) {
+            Turn::More(n) => count += n,
+            Turn::Over(status) => return status,
+        }
+    }
+    10
+}

@@ -1,0 +1,126 @@
+//! A run of a script: takes its bytes as they come, and collects the replies to the lines that they end.
+//!
+//! Each byte is looked at once. Of a line no more is kept than tells whether it is too long.
+
+ghost use Rattle.std.specs.Prelude.{◌≡◌, ◌<◌, ◌≤◌, ◌++◌, ◌∷◌, [], ℕ, List, Some, OnOk, OnErr};
+ghost use Rattle.std.specs.Io.KnownBytes.{Appends};
+ghost use Rattle.lt_model.specs.Disk.{HasCause};
+ghost use Rattle.lt_model.specs.Outside.{StaysTold};
+ghost use Rattle.lt_model.specs.Fair.{Feed as Streams};
+ghost use Rattle.lt_model.specs.Run.{Counts};
+ghost use Rattle.lightning_cli.specs.Serving.{AppendsFront, HasRun, HasRunSome, Stands, kept_of};
+ghost use Rattle.lightning_cli.specs.Sessions.{FeedGoes, taken};
+
+use crate::line::{self, Line, MAX_LINE};
+use crate::output::put;
+use crate::session::Session;
+use lt_core::Memory;
+use lt_io::{Feed, Sink, WriteFault};
+use std::alloc::Global;
+
+const LINE_FEED: u8 = b'\n';
+
+const BAD_LINE: &[u8] = b"refused E1 BadLine\n";
+
+/// A run of a script.
+#[derive(Debug, Drop)]
+pub struct Server {
+    session: Session,
+    /// The first bytes of the line that is open.
+    line: Vec<u8>,
+    /// What was answered and is not written yet.
+    replies: Vec<u8>,
+}
+
+impl Server {
+    pub fn new(alloc: Global, session: Session) -> Server
+        ensures session { result.session ≡ session }
+        ensures line { result.line.items ≡ [] }
+        ensures replies { result.replies.items ≡ [] }
+    {
+        Server {
+            session,
+            line: Vec::new(alloc),
+            replies: Vec::new(alloc),
+        }
+    }
+
+    /// What was answered and is not written yet.
+    pub fn replies(&self) -> &[u8]
+        ensures { result.now ≡ self.now.replies.items }
+    {
+        self.replies.as_slice()
+    }
+
+    /// Writes what was answered. After a fault some first bytes of it may have been written.
+    pub fn flush<K: Sink>(&mut self, out: &mut K) -> Result<(), WriteFault>
+        ensures all { OnOk result (Appends (K.held out.old) (K.held out.new) self.old.replies.items × (self.new.replies.items ≡ [])) }
+        ensures front { OnErr result (AppendsFront (K.held out.old) (K.held out.new) self.old.replies.items) }
+        ensures rest { (self.new.session ≡ self.old.session) × (self.new.line.items ≡ self.old.line.items) }
+        ensures stays { StaysTold (K.held out.old) (K.held out.new) }
+        ensures cause { HasCause (K.faults out.old) (K.faults out.new) result }
+    {
+        put(out, self.replies.as_slice())?;
+        self.replies.clear();
+        Ok(())
+    }
+
+    /// Takes further bytes of the script, and answers the lines that they end. An `Err` finds no memory, and is the end of the run.
+    pub fn take<F: Feed>(&mut self, alloc: Global, feed: &mut F, bytes: &[u8]) -> Result<(), Memory>
+        requires { 0 < F.known feed.old }
+        ensures ok { (f g f0 : Streams) (n0 : Counts) (before written : List ℕ) → F.told feed.old ≡ Some f → F.told feed.new ≡ Some g
+            → Stands f0 n0 before written f (F.faults feed.old) (taken self.old.session) self.old.replies.items self.old.line.items
+            → OnOk result (Stands f0 n0 (before ++ bytes.now) written g (F.faults feed.new) (taken self.new.session) self.new.replies.items self.new.line.items) }
+        ensures err { (f g f0 : Streams) (n0 : Counts) (before written : List ℕ) → F.told feed.old ≡ Some f → F.told feed.new ≡ Some g
+            → Stands f0 n0 before written f (F.faults feed.old) (taken self.old.session) self.old.replies.items self.old.line.items
+            → OnErr result (HasRunSome f0 n0 (before ++ bytes.now) written g (F.faults feed.new)) }
+        ensures feed { FeedGoes (F.told feed.old) (F.told feed.new) (F.known feed.old) (F.known feed.new) (F.faults feed.old) (F.faults feed.new) }
+    {
+        for byte in bytes {
+            self.take_byte(alloc, feed, *byte)?;
+        }
+        Ok(())
+    }
+
+    /// Takes one byte.
+    fn take_byte<F: Feed>(&mut self, alloc: Global, feed: &mut F, byte: u8) -> Result<(), Memory>
+        requires { 0 < F.known feed.old }
+        ensures ok { (f g f0 : Streams) (n0 : Counts) (before written : List ℕ) → F.told feed.old ≡ Some f → F.told feed.new ≡ Some g
+            → Stands f0 n0 before written f (F.faults feed.old) (taken self.old.session) self.old.replies.items self.old.line.items
+            → OnOk result (Stands f0 n0 (before ++ byte ∷ []) written g (F.faults feed.new) (taken self.new.session) self.new.replies.items self.new.line.items) }
+        ensures feed { FeedGoes (F.told feed.old) (F.told feed.new) (F.known feed.old) (F.known feed.new) (F.faults feed.old) (F.faults feed.new) }
+    {
+        if byte == LINE_FEED {
+            self.answer(alloc, feed)?;
+            self.line.clear();
+            return Ok(());
+        }
+        if self.line.len() <= MAX_LINE {
+            self.line.push(byte)?;
+        }
+        Ok(())
+    }
+
+    /// Answers the open line.
+    pub fn answer<F: Feed>(&mut self, alloc: Global, feed: &mut F) -> Result<(), Memory>
+        requires { 0 < F.known feed.old }
+        ensures ok { (f g f0 : Streams) (n0 : Counts) (lines : List (List ℕ)) (written line : List ℕ) → F.told feed.old ≡ Some f → F.told feed.new ≡ Some g → self.old.line.items ≡ kept_of line
+            → HasRun f0 n0 lines written f (F.faults feed.old) (taken self.old.session) self.old.replies.items
+            → OnOk result (HasRun f0 n0 (lines ++ line ∷ []) written g (F.faults feed.new) (taken self.new.session) self.new.replies.items) }
+        ensures line { self.new.line.items ≡ self.old.line.items }
+        ensures feed { FeedGoes (F.told feed.old) (F.told feed.new) (F.known feed.old) (F.known feed.new) (F.faults feed.old) (F.faults feed.new) }
+    {
+        match line::read_line(alloc, self.line.as_slice())? {
+            Line::Skipped => Ok(()),
+            Line::Bad => {
+                self.replies.extend_from_slice(BAD_LINE)?;
+                Ok(())
+            }
+            Line::Command(command) => {
+                let text = self.session.answer(alloc, command, feed)?;
+                self.replies.extend_from_slice(text.as_slice())?;
+                Ok(())
+            }
+        }
+    }
+}
