@@ -1,0 +1,14 @@
+#!/usr/bin/env bash
+# The first run ends well, and prints the replies that stand beside the example.
+set -eu
+cd "$(dirname "$0")/.."
+shown=$(./first-run)
+missing=$(sed 's/^/    /' examples/one_stream/replies | while IFS= read -r line; do
+  grep -qxF -- "$line" <<< "$shown" || echo "$line"
+done)
+if [ -n "$missing" ]; then
+  printf 'first-run does not print:\n%s\n' "$missing"
+  exit 1
+fi
+python=$(command -v python3) || { echo "no python3: the example's bytes are not compared with docs/formats.md"; exit 0; }
+"$python" tests/example_bytes.py
