@@ -13,8 +13,9 @@ use Rattle.lt_model.specs.Script.{Command, Line, bad_line, do_pump, do_scan, lin
 use Rattle.lt_model.specs.Reply.{scan_done}
 use Rattle.lt_model.specs.Disk.{Rose}
 use Rattle.lt_model.specs.Machine.{Answer, State, StreamAt, Takes, behind_header, fresh, moved_by, opened, with_items}
-use Rattle.lt_model.specs.Run.{IsOver, answer_text, Rules, StartFault, start_feed, start_mismatch, usage_text}
-use Rattle.lt_model.specs.Program.{IsCut, IsFront, RunEnds, Stops, Told, Trace, run_cause}
+use Rattle.lt_model.specs.Run.{CauseOf, Counts, IsOver, answer_text, Rules, StartFault, start_feed, start_mismatch, usage_text}
+use Rattle.lt_model.specs.Program.{IsCut, IsFront, RunEnds, Stops, Told, Trace}
+use Rattle.lt_model.specs.Outside.{Causes, caused_by}
 use Rattle.lt_model.specs.declared.Format.TheVariants as format
 use Rattle.lt_model.specs.declared.KeyKind.TheVariants as key_kind
 use Rattle.lt_model.specs.declared.Rank.TheVariants as rank
@@ -89,8 +90,15 @@ only_answered line (spells_command c) = if is_answered c && nat_le (length (word
 unfoldable pub line_read : List ℕ → Line
 line_read line = only_answered line (line_of line)
 
+-- There is no disk, no room and no row sink that may be the cause of a fault.
+abbrev pub only_causes : Counts → Counts → Causes
+only_causes n m = record { feed = Rose n.feed m.feed; disk = ⊥; out = ⊥; full = λ need room. ⊥; hurt = λ e. ⊥; mismatch = λ k. ⊥ }
+
+abbrev pub only_cause : CauseOf
+only_cause n m f s c r = caused_by (only_causes n m) r
+
 abbrev pub only_rules : Rules
-only_rules = record { reads = line_read; cause = run_cause }
+only_rules = record { reads = line_read; cause = only_cause }
 
 -- ---- how the program ends
 
@@ -111,8 +119,8 @@ pub data Ends (words : List (List ℕ)) (old new : Told) (t : Trace) (status : �
   usage : is_run words ≡ false → status ≡ 2 → t.written ≡ usage_text → t.taken ≡ [] → t.moments ≡ [] → Ends words old new t status
   usage_cut : is_run words ≡ false → IsCut status → IsFront t.written usage_text → t.taken ≡ [] → t.moments ≡ [] → Ends words old new t status
   not_begun : is_run words ≡ true → Stops (NotBegun old new) t.written status → t.taken ≡ [] → t.moments ≡ [] → Ends words old new t status
-  ran : is_run words ≡ true → (f : Feed) → Grows old.feed f → IsOneStream f → RunEnds only_rules f old.counts only_session old.script t status
-      → IsOver f old.counts t.moments new.feed new.counts → Ends words old new t status
+  ran : is_run words ≡ true → (f : Feed) → Grows old.feed f → IsOneStream f → RunEnds only_rules f old.counts new.counts only_session old.script t status
+      → IsOver f old.counts t.moments status new.feed new.counts → Ends words old new t status
 
 -- What a call of the program did: one trace says what was taken, what was written, and what the lines did.
 pub record Did (words : List (List ℕ)) (old new : Told) (status : ℕ) : Type 0 where

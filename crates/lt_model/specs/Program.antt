@@ -63,20 +63,23 @@ abbrev pub run_rules : Rules
 run_rules = record { reads = line_of; cause = run_cause }
 
 -- A run that a failing sink or want of memory ends: a front of the text stands, which may end within the line that says why it stops.
-pub data EndsEarly (rules : Rules) (f : Feed) (n : Counts) (s : State) (script : List ℕ) (t : Trace) : Type 0 where
-  in_replies : (k : ℕ) → Runs rules f n s (take k (script_lines script)) t.moments → IsFront t.written (run_text t.moments) → EndsEarly rules f n s script t
-  in_script_fault : Runs rules f n s (lines_ended t.taken) t.moments → IsFront t.written (run_text t.moments ++ script_fault_text) → EndsEarly rules f n s script t
-  in_too_long : max_script < length script → Runs rules f n s (lines_ended (take max_script script)) t.moments → IsFront t.written (run_text t.moments ++ too_long_text) → EndsEarly rules f n s script t
+pub data EndsEarly (rules : Rules) (f : Feed) (n end_counts : Counts) (s : State) (script : List ℕ) (t : Trace) : Type 0 where
+  -- of the lines that were ended in what was taken some first ones were answered
+  in_replies : (part : List ℕ) → IsFront part t.taken → length part ≤ max_script → Runs rules f n s (lines_ended part) t.moments → IsFront t.written (run_text t.moments) → EndsEarly rules f n end_counts s script t
+  -- the script was read to its end, and all lines were answered
+  in_last_line : t.taken ≡ script → length script ≤ max_script → Runs rules f n s (script_lines script) t.moments → IsFront t.written (run_text t.moments) → EndsEarly rules f n end_counts s script t
+  in_script_fault : Rose n.script end_counts.script → length t.taken ≤ max_script → Runs rules f n s (lines_ended t.taken) t.moments → IsFront t.written (run_text t.moments ++ script_fault_text) → EndsEarly rules f n end_counts s script t
+  in_too_long : max_script < length script → Runs rules f n s (lines_ended (take max_script script)) t.moments → IsFront t.written (run_text t.moments ++ too_long_text) → EndsEarly rules f n end_counts s script t
 
 -- A run of a script from an opened session, by its status.
-pub data RunEnds (rules : Rules) (f : Feed) (n : Counts) (s : State) (script : List ℕ) (t : Trace) (status : ℕ) : Type 0 where
+pub data RunEnds (rules : Rules) (f : Feed) (n end_counts : Counts) (s : State) (script : List ℕ) (t : Trace) (status : ℕ) : Type 0 where
   -- the script was read to its end, and all lines were answered
-  all_answered : status ≡ 0 → t.taken ≡ script → length script ≤ max_script → Runs rules f n s (script_lines script) t.moments → t.written ≡ run_text t.moments → RunEnds rules f n s script t status
+  all_answered : status ≡ 0 → t.taken ≡ script → length script ≤ max_script → Runs rules f n s (script_lines script) t.moments → t.written ≡ run_text t.moments → RunEnds rules f n end_counts s script t status
   -- the script failed; the lines ended in what was taken were answered
-  script_failed : status ≡ 3 → Runs rules f n s (lines_ended t.taken) t.moments → t.written ≡ run_text t.moments ++ script_fault_text → RunEnds rules f n s script t status
+  script_failed : status ≡ 3 → Rose n.script end_counts.script → length t.taken ≤ max_script → Runs rules f n s (lines_ended t.taken) t.moments → t.written ≡ run_text t.moments ++ script_fault_text → RunEnds rules f n end_counts s script t status
   -- the script is too long; the lines ended within the longest were answered
-  script_too_long : status ≡ 9 → max_script < length script → Runs rules f n s (lines_ended (take max_script script)) t.moments → t.written ≡ run_text t.moments ++ too_long_text → RunEnds rules f n s script t status
-  ended_early : IsCut status → EndsEarly rules f n s script t → RunEnds rules f n s script t status
+  script_too_long : status ≡ 9 → max_script < length script → Runs rules f n s (lines_ended (take max_script script)) t.moments → t.written ≡ run_text t.moments ++ too_long_text → RunEnds rules f n end_counts s script t status
+  ended_early : IsCut status → EndsEarly rules f n end_counts s script t → RunEnds rules f n end_counts s script t status
 
 -- ---- why no session begins
 
@@ -159,7 +162,7 @@ abbrev pub no_cause : CauseOf
 no_cause n m f s c r = r ≡ out_of_memory
 
 abbrev pub no_counts : Counts
-no_counts = record { feed = 0; disk = 0; writes = 0; out = 0; clock = 0 }
+no_counts = record { feed = 0; script = 0; disk = 0; writes = 0; out = 0; clock = 0 }
 
 abbrev pub gen_feed : ℕ → Feed
 gen_feed n = gen_stream n ∷ []
@@ -199,7 +202,7 @@ pub data InitEnds (c : Causes) (most : ℕ) (image : List ℕ) (f : Feed) (writt
 pub data ScriptEnds (c : Causes) (image : List ℕ) (old new : Told) (t : Trace) (status : ℕ) : Type 0 where
   not_opened : t.moments ≡ [] → Stops (OpenCaused c (Some image) (Some new.feed)) t.written status → ScriptEnds c image old new t status
   ran : (d : Durable) (hs : List Header) (f : Feed) → Holds image d → Grows old.feed f → Attaches f (Some (map (λ s. s.low) d.streams)) hs
-      → RunEnds run_rules f old.counts (opened d hs) old.script t status → IsOver f old.counts t.moments new.feed new.counts → ScriptEnds c image old new t status
+      → RunEnds run_rules f old.counts new.counts (opened d hs) old.script t status → IsOver f old.counts t.moments status new.feed new.counts → ScriptEnds c image old new t status
 
 -- What a call of the program did, by its words, over a disk that reads as an image.
 abbrev pub ProgramEnds : Causes → List ℕ → Told → Told → Words → Trace → ℕ → Type 0
@@ -226,9 +229,10 @@ AnswersStand left_since f (m ∷ ms) = ((image : List ℕ) → left_since m.coun
 -- ---- clauses of the top call
 
 -- the counts of the objects handed in
-abbrev pub counts_of : {D F K : Type 0} → (D → ℕ) → (D → ℕ) → (D → ℕ) → (F → ℕ) → (K → ℕ) → D → F → K → Counts
-counts_of disk_faults write_faults moment feed_faults out_faults disk feed out = record {
+abbrev pub counts_of : {D F S K : Type 0} → (D → ℕ) → (D → ℕ) → (D → ℕ) → (F → ℕ) → (S → ℕ) → (K → ℕ) → D → F → S → K → Counts
+counts_of disk_faults write_faults moment feed_faults script_faults out_faults disk feed script out = record {
   feed = feed_faults feed;
+  script = script_faults script;
   disk = disk_faults disk;
   writes = write_faults disk;
   out = out_faults out;
