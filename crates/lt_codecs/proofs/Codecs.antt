@@ -1,18 +1,22 @@
 -- The laws of a format, and that each way to build one keeps them.
 use Rattle.std.proofs.Common.{◌≡◌, ℕ, ℤ, pos, negsuc, ◌-◌, FitsSigned, zero, suc, ◌+◌, ◌^◌, ◌%◌, ◌<◌, ◌≤◌, Bool, true, false, cond, ltb, leb, eqb, List, [], ◌∷◌, ◌++◌, length, take, drop, Option, Some, None, refl, sym, ap, subst, ◌∙◌, append_assoc, arith, inl, inr}
-use Rattle.std.specs.Prelude.{IsTrue, ◌&&◌}
+use Rattle.std.specs.Prelude.{IsTrue, ◌&&◌, ◌↔◌}
 use Rattle.std.specs.List.{flat_map, AllByRecursion}
+use mir.Val.{hbits}
 use Rattle.std.specs.Int.{Width, w8, w16, w32, w64, byte_len, cast_signed, cast_unsigned, from_be_bytes, to_be_bytes}
-use Rattle.std.proofs.lemmas.Bool.{cases_lt, ltb-false, ltb-true, lt-ltb, le-ltb, leb-true, le-leb, eqb-true}
+use Rattle.std.proofs.lemmas.Bool.{and_parts, cases_lt, ltb-false, ltb-true, lt-ltb, le-ltb, leb-true, le-leb, eqb-true}
 use Rattle.std.proofs.lemmas.List.{take_at, drop_at, take-append-drop, length-append, length-take, get_or-drop, get_or-take, get_or_past, append-nil, nil_from_length}
 use Rattle.std.proofs.lemmas.List.Concat.{flat_map-cons}
-use Rattle.std.proofs.lemmas.Nat.{be_bytes_2, be_bytes_4, be_bytes_8, from_be_bytes-to_be_bytes_2, from_be_bytes-to_be_bytes_4, from_be_bytes-to_be_bytes_8}
+use Rattle.std.proofs.lemmas.Nat.{be_bytes_2, be_bytes_4, be_bytes_8, from_be_bytes-to_be_bytes_2, from_be_bytes-to_be_bytes_4, from_be_bytes-to_be_bytes_8, pow_pos}
 use Rattle.std.proofs.lemmas.Int.{of_z-to_z, to_z-of_z}
 use Rattle.std.proofs.Math.Facts.{Fits-of_z, sfits_to_z, Fits-of_lt, Fits-lt-pow}
 use Rattle.std.specs.Str.{bytes_eq, is_utf8}
 use Rattle.std.proofs.lemmas.Slice.Eq.{bytes_eq-Decides}
-use Rattle.lt_model.specs.Value.{fits_64}
-use Rattle.lt_codecs.specs.Codec.{IsBytes, Codec, empty, nothing, literal, then_by, stated, on_tag, tagged, text32, ◌>>=◌, number, ◌then◌, u8, u16, u32, u64, mapped, where_true, read_times, counted, i64, bytes_by, bytes16, bytes32, optional, optional_behind, optional_spell, OptionalLawful, whole, sized, body_of}
+use Rattle.lt_model.specs.Value.{fits_32, fits_64}
+pub use Rattle.lt_codecs.specs.Codec.{IsCodec, Takes}
+pub use Rattle.lt_codecs.specs.CodecLaws.{IsAgain, IsBehind, IsSigned, IsTagged, IsWide, States, within}
+use Rattle.lt_codecs.specs.CodecLaws.{KeepCodecs, Parts, SaysBehind}
+use Rattle.lt_codecs.specs.Codec.{IsBytes, Codec, signed, i32, byte, of_parts, empty, nothing, literal, then_by, stated, on_tag, tagged, text32, ◌>>=◌, number, ◌then◌, u8, u16, u32, u64, mapped, where_true, read_times, times, counted, i64, bytes_by, bytes16, bytes32, optional, optional_behind, optional_spell, OptionalLawful, whole, sized, body_of}
 
 pub IsBytes-drop : (n : ℕ) (bytes : List ℕ) → IsBytes bytes → IsBytes (drop n bytes)
 IsBytes-drop n bytes h i = rw get_or-drop (h (n + i))
@@ -24,18 +28,8 @@ IsBytes-take n bytes h i =
       | inr le ↦ rw (get_or_past (take n bytes) i 0 (omega (arith, length-take n bytes))) (omega arith)
     ]
 
--- what a reader took from the front
-pub record Takes (bytes text rest : List ℕ) : Type 0 where
-  pub parts : bytes ≡ text ++ rest
-  pub rest_fits : IsBytes rest
-
 pub Takes-then : (a x b y c : List ℕ) → Takes a x b → Takes b y c → Takes a (x ++ y) c
 Takes-then a x b y c p q = record { parts = p.parts ∙ ap (λ (t : List ℕ). x ++ t) q.parts ∙ sym (append_assoc x y c); rest_fits = q.rest_fits }
-
--- what is read is lawful and spelled so, and what is lawful and spelled so is read, whatever follows
-pub record IsCodec {A : Type 0} (c : Codec A) : Type 0 where
-  pub takes : (bytes : List ℕ) (x : A) (rest : List ℕ) → IsBytes bytes → c.read bytes ≡ Some (x, rest) → Takes bytes (c.spell x) rest × c.Lawful x
-  pub again : (x : A) (rest : List ℕ) → c.Lawful x → c.read (c.spell x ++ rest) ≡ Some (x, rest)
 
 pub bind_some : {A B : Type 0} (o : Option A) (f : A → Option B) (y : B) → (o >>= f) ≡ Some y → (x : A) × (o ≡ Some x) × (f x ≡ Some y)
 bind_some (Some x) f y e = (x, refl, e)
@@ -44,6 +38,10 @@ bind_some None f y e = absurd cc
 pub guard_some : {A : Type 0} (b : Bool) (x y : A) → cond b (Some x) None ≡ Some y → (b ≡ true) × (x ≡ y)
 guard_some true x y e = (refl, cc)
 guard_some false x y e = absurd cc
+
+pub guard_then : {A : Type 0} (b : Bool) (o : Option A) (y : A) → cond b o None ≡ Some y → (b ≡ true) × (o ≡ Some y)
+guard_then true o y e = (refl, e)
+guard_then false o y e = absurd cc
 
 pub guard_none : {A : Type 0} (b : Bool) (x y : A) → cond b None (Some x) ≡ Some y → (b ≡ false) × (x ≡ y)
 guard_none true x y e = absurd cc
@@ -119,6 +117,18 @@ times_again a p (x ∷ xs) rest lawful =
     let regrouped : flat_map a.spell (x ∷ xs) ++ rest ≡ a.spell x ++ (flat_map a.spell xs ++ rest) = ap (λ (y : List ℕ). y ++ rest) (flat_map-cons a.spell x xs) ∙ append_assoc (a.spell x) (flat_map a.spell xs) rest in
     ap (read_times a.read (suc (length xs))) regrouped ∙ rw (p.again x (flat_map a.spell xs ++ rest) lawful.0, times_again a p xs rest lawful.1) refl
 
+pub times_is : {A : Type 0} (n : ℕ) (a : Codec A) → IsCodec a → IsCodec (times n a)
+times_is n a p = record {
+  takes = λ bytes xs rest fits e. let t = times_take a p n bytes xs rest fits e in (t.0, (t.1, t.2));
+  again = λ xs rest h. ap (λ (k : ℕ). read_times a.read k (flat_map a.spell xs ++ rest)) (sym h.0) ∙ times_again a p xs rest h.1;
+}
+
+-- as many spellings, one after another, do not begin one another
+pub spells_apart : {A : Type 0} (a : Codec A) → IsCodec a → (xs ys : List A) (x y : List ℕ) → AllByRecursion a.Lawful xs → AllByRecursion a.Lawful ys → length xs ≡ length ys → flat_map a.spell xs ++ x ≡ flat_map a.spell ys ++ y → (xs ≡ ys) × (x ≡ y)
+spells_apart {A} a p xs ys x y h k l e =
+    let same = some_is (xs, x) (ys, y) (sym (times_again a p xs x h) ∙ ap (read_times a.read (length xs)) e ∙ ap (λ (n : ℕ). read_times a.read n (flat_map a.spell ys ++ y)) l ∙ times_again a p ys y k) in
+    (ap (λ (z : List A × List ℕ). z.0) same, ap (λ (z : List A × List ℕ). z.1) same)
+
 pub counted_is : {A : Type 0} (count : Codec ℕ) (a : Codec A) → IsCodec count → IsCodec a → IsCodec (counted count a)
 counted_is {A} count a num p = record {
   takes = λ bytes xs rest fits e.
@@ -132,12 +142,6 @@ counted_is {A} count a num p = record {
 }
 
 -- ---- numbers
-
-pub record IsWide (w : Width) (limit : ℕ) : Type 0 where
-  pub len : (n : ℕ) → length (to_be_bytes w n) ≡ byte_len w
-  pub back : (bytes : List ℕ) → length bytes ≡ byte_len w → IsBytes bytes → to_be_bytes w (from_be_bytes w bytes) ≡ bytes
-  pub again : (n : ℕ) → n < limit → from_be_bytes w (to_be_bytes w n) ≡ n
-  pub below : (bytes : List ℕ) → IsBytes bytes → from_be_bytes w bytes < limit
 
 pub wide16 : IsWide w16 (2 ^ 16)
 wide16 = record {
@@ -217,11 +221,6 @@ u32_lawful n h = h
 
 -- ---- signed numbers
 
--- what both tests say
-pub both_true : (a b : Bool) → a && b ≡ true → (a ≡ true) × (b ≡ true)
-both_true true b e = (refl, e)
-both_true false b e = absurd cc
-
 u64_below : (n : ℕ) → u64.Lawful n → n < 2 ^ 64
 unfolding u64
 u64_below n h = h
@@ -230,33 +229,41 @@ u64_lawful : (n : ℕ) → n < 2 ^ 64 → u64.Lawful n
 unfolding u64
 u64_lawful n h = h
 
-signed_fits : (z : ℤ) → IsTrue (fits_64 z) → FitsSigned w64 z
-signed_fits (pos n) h = record { sfits = ltb-true n (2 ^ 63) h }
-signed_fits (negsuc n) h = record { sfits = omega (arith, leb-true n (2 ^ 63 - 1) (both_true (leb n (2 ^ 63 - 1)) true h).0) }
+-- what the test of a signed number says, and that it says so
+pub fit : (w : Width) (z : ℤ) → IsTrue (within (2 ^ hbits w) z) → FitsSigned w z
+fit w (pos n) h = record { sfits = ltb-true n (2 ^ hbits w) h }
+fit w (negsuc n) h = record { sfits = omega (arith, pow_pos (hbits w), leb-true n (2 ^ hbits w - 1) (and_parts (leb n (2 ^ hbits w - 1)) true h).0) }
 
-fits_signed : (z : ℤ) → FitsSigned w64 z → IsTrue (fits_64 z)
-fits_signed (pos n) h = lt-ltb n (2 ^ 63) h.sfits
-fits_signed (negsuc n) h = rw (le-leb n (2 ^ 63 - 1) (omega (arith, h.sfits))) refl
+pub tested : (w : Width) (z : ℤ) → FitsSigned w z → IsTrue (within (2 ^ hbits w) z)
+tested w (pos n) h = lt-ltb n (2 ^ hbits w) h.sfits
+tested w (negsuc n) h = rw (le-leb n (2 ^ hbits w - 1) (omega (arith, h.sfits))) refl
 
 -- a signed number from its bits, and the bytes behind it
-abbrev from_bits : ℕ × List ℕ → Option (ℤ × List ℕ)
-from_bits n = Some (cast_signed w64 n.0, n.1)
+abbrev from_bits : Width → ℕ × List ℕ → Option (ℤ × List ℕ)
+from_bits w n = Some (cast_signed w n.0, n.1)
+
+pub signed_is : (w : Width) (fits : ℤ → Bool) (unsigned : Codec ℕ) → IsSigned w fits unsigned → IsCodec (signed w fits unsigned)
+signed_is w fits unsigned s = record {
+  takes = λ bytes z rest are_bytes e.
+      let one = bind_some (unsigned.read bytes) (from_bits w) (z, rest) e in
+      let t = s.is_codec.takes bytes one.0.0 one.0.1 are_bytes one.1 in
+      let below = s.below one.0.0 t.1 in
+      let back : cast_unsigned w (cast_signed w one.0.0) ≡ one.0.0 = of_z-to_z w one.0.0 below in
+      let spelled : Takes bytes (unsigned.spell (cast_unsigned w (cast_signed w one.0.0))) one.0.1 = subst (λ (k : ℕ). Takes bytes (unsigned.spell k) one.0.1) (sym back) t.0 in
+      subst (λ (y : ℤ × List ℕ). Takes bytes (unsigned.spell (cast_unsigned w y.0)) y.1 × IsTrue (fits y.0)) (some_is (cast_signed w one.0.0, one.0.1) (z, rest) one.2) (spelled, s.tests _ ∙ tested w _ (sfits_to_z (Fits-of_lt {w = w} {n = one.0.0} below)));
+  again = λ z rest lawful.
+      let fits_it : FitsSigned w z = fit w z (sym (s.tests z) ∙ lawful) in
+      ap (λ (o : Option (ℕ × List ℕ)). o >>= from_bits w) (s.is_codec.again (cast_unsigned w z) rest (s.lawful _ (Fits-lt-pow (Fits-of_z {w = w} {z = z} fits_it))))
+      ∙ ap (λ (y : ℤ). Some (y, rest)) (to_z-of_z w z fits_it);
+}
+
+pub i32_is : IsCodec i32
+unfolding i32
+i32_is = signed_is w32 fits_32 u32 (record { is_codec = u32_is; below = u32_below; lawful = u32_lawful; tests = λ z. refl })
 
 pub i64_is : IsCodec i64
 unfolding i64
-i64_is = record {
-  takes = λ bytes z rest fits e.
-      let one = bind_some (u64.read bytes) from_bits (z, rest) e in
-      let t = u64_is.takes bytes one.0.0 one.0.1 fits one.1 in
-      let below = u64_below one.0.0 t.1 in
-      let back : cast_unsigned w64 (cast_signed w64 one.0.0) ≡ one.0.0 = of_z-to_z w64 one.0.0 below in
-      let spelled : Takes bytes (i64.spell (cast_signed w64 one.0.0)) one.0.1 = subst (λ (k : ℕ). Takes bytes (u64.spell k) one.0.1) (sym back) t.0 in
-      subst (λ (y : ℤ × List ℕ). Takes bytes (i64.spell y.0) y.1 × i64.Lawful y.0) (some_is (cast_signed w64 one.0.0, one.0.1) (z, rest) one.2) (spelled, fits_signed _ (sfits_to_z (Fits-of_lt {w = w64} {n = one.0.0} below)));
-  again = λ z rest lawful.
-      let fits : FitsSigned w64 z = signed_fits z lawful in
-      ap (λ (o : Option (ℕ × List ℕ)). o >>= from_bits) (u64_is.again (cast_unsigned w64 z) rest (u64_lawful _ (Fits-lt-pow (Fits-of_z {w = w64} {z = z} fits))))
-      ∙ ap (λ (y : ℤ). Some (y, rest)) (to_z-of_z w64 z fits);
-}
+i64_is = signed_is w64 fits_64 u64 (record { is_codec = u64_is; below = u64_below; lawful = u64_lawful; tests = λ z. refl })
 
 -- ---- bytes
 
@@ -314,7 +321,7 @@ body_parted limit bytes body rest fits e =
     let n = one.0 in
     let t = u32_is.takes bytes n.0 n.1 fits one.1 in
     let g = guard_some (leb n.0 limit && leb n.0 (length n.1)) (take n.0 n.1, drop n.0 n.1) (body, rest) one.2 in
-    let b = both_true (leb n.0 limit) (leb n.0 (length n.1)) g.0 in
+    let b = and_parts (leb n.0 limit) (leb n.0 (length n.1)) g.0 in
     let under : n.0 ≤ limit = leb-true _ _ b.0 in
     let long : n.0 ≤ length n.1 = leb-true _ _ b.1 in
     let len : length (take n.0 n.1) ≡ n.0 = omega (arith, length-take n.0 n.1) in
@@ -368,11 +375,6 @@ then_by_is {A} {B} a b p q = record {
       ap (then_by a b).read (append_assoc (a.spell x.0) ((b x.0).spell x.1) rest) ∙ rw (p.again x.0 ((b x.0).spell x.1 ++ rest) lawful.0, second.again x.1 rest lawful.1) refl;
 }
 
--- a grammar says of a type what a codec says of another one
-pub record States {A B : Type 0} (to : B → A) (spell : A → List ℕ) (Lawful : A → Type 0) (b : Codec B) : Type 0 where
-  pub made : (y : B) → b.Lawful y → Lawful (to y) × (b.spell y ≡ spell (to y))
-  pub comes : (x : A) → Lawful x → (y : B) × (to y ≡ x) × b.Lawful y
-
 abbrev pub retyped : {A B : Type 0} → (B → A) → B × List ℕ → Option (A × List ℕ)
 retyped to y = Some (to y.0, y.1)
 
@@ -392,6 +394,23 @@ stated_is {A} {B} to spell Lawful b states p = record {
       ∙ ap (λ (z : A). Some (z, rest)) c.1;
 }
 
+pub of_parts_is : {A B : Type 0} (to : B → A) (from : A → B) (spell : A → List ℕ) (b : Codec B) → ((x : A) → to (from x) ≡ x) → ((y : B) → from (to y) ≡ y) → ((y : B) → b.Lawful y → b.spell y ≡ spell (to y))
+    → IsCodec b → IsCodec (of_parts to from spell b)
+of_parts_is {A} {B} to from spell b again back spells p = stated_is to spell (λ x. b.Lawful (from x)) b states p
+  where
+    states : States to spell (λ x. b.Lawful (from x)) b
+    states = record {
+      made = λ y h. (subst b.Lawful (sym (back y)) h, spells y h);
+      comes = λ x h. (from x, again x, h);
+    }
+
+pub byte_is : IsCodec byte
+unfolding byte u8
+byte_is = stated_is (λ n. n) (λ n. n ∷ []) (λ n. n < 2 ^ 8) u8 (record { made = λ n h. (h, small n h); comes = λ n h. (n, refl, h) }) u8_is
+  where
+    small : (n : ℕ) → n < 2 ^ 8 → to_be_bytes w8 n ≡ n ∷ []
+    small n h = let e : n % 256 ≡ n = omega (arith, h) in ap (λ (k : ℕ). k ∷ []) e
+
 -- a tag of one byte
 pub u8_front : (bytes : List ℕ) (tag : ℕ) (rest : List ℕ) → IsBytes bytes → u8.read bytes ≡ Some (tag, rest) → Takes bytes (tag ∷ []) rest × (tag < 256)
 unfolding u8
@@ -405,25 +424,6 @@ unfolding u8
 u8_again tag rest h =
     let same : tag % 256 ≡ tag = omega (arith, h) in
     subst (λ (b : ℕ). u8.read (b ∷ rest) ≡ Some (tag, rest)) same (u8_is.again tag rest h)
-
--- what stands behind a tag was spelled with it
-pub record IsBehind {A : Type 0} (spell : A → List ℕ) (Lawful : A → Type 0) (tag : ℕ) (bytes : List ℕ) (x : A) (rest : List ℕ) : Type 0 where
-  pub text : List ℕ
-  pub spells : spell x ≡ tag ∷ text
-  pub taken : Takes bytes text rest
-  pub lawful : Lawful x
-
--- a lawful value is read again behind its tag
-pub record IsAgain {A : Type 0} (spell : A → List ℕ) (read_behind : ℕ → List ℕ → Option (A × List ℕ)) (x : A) (rest : List ℕ) : Type 0 where
-  pub tag : ℕ
-  pub text : List ℕ
-  pub small : tag < 256
-  pub spells : spell x ≡ tag ∷ text
-  pub reads : read_behind tag (text ++ rest) ≡ Some (x, rest)
-
-pub record IsTagged {A : Type 0} (spell : A → List ℕ) (Lawful : A → Type 0) (read_behind : ℕ → List ℕ → Option (A × List ℕ)) : Type 0 where
-  pub takes : (tag : ℕ) (bytes : List ℕ) (x : A) (rest : List ℕ) → IsBytes bytes → read_behind tag bytes ≡ Some (x, rest) → IsBehind spell Lawful tag bytes x rest
-  pub again : (x : A) (rest : List ℕ) → Lawful x → IsAgain spell read_behind x rest
 
 pub tagged_is : {A : Type 0} (spell : A → List ℕ) (Lawful : A → Type 0) (read_behind : ℕ → List ℕ → Option (A × List ℕ)) → IsTagged spell Lawful read_behind → IsCodec (tagged spell Lawful read_behind)
 tagged_is {A} spell Lawful read_behind p = record {
@@ -453,6 +453,14 @@ on_tag_takes {A} {B} k tag b to bytes others x rest P p fits here there e = by_t
         subst (λ (z : A × List ℕ). P z.0 z.1) (some_is (to one.0.0, one.0.1) (x, rest) one.2) (here one.0.0 one.0.1 (sym (eqb-true tag k is)) t.0 t.1)
     by_test false is e = there e
 
+-- what stands behind this tag, or behind one of the others
+pub on_tag_is : {A B : Type 0} {spell : A → List ℕ} {Lawful : A → Type 0} (k tag : ℕ) (b : Codec B) (to : B → A) (bytes : List ℕ) (others : Option (A × List ℕ)) (x : A) (rest : List ℕ) → IsCodec b → IsBytes bytes → SaysBehind k b to spell Lawful
+    → (others ≡ Some (x, rest) → IsBehind spell Lawful tag bytes x rest) → on_tag k tag b to bytes others ≡ Some (x, rest) → IsBehind spell Lawful tag bytes x rest
+on_tag_is {A} {B} {spell} {Lawful} k tag b to bytes others x rest p fits says there e = on_tag_takes k tag b to bytes others x rest (λ y r. IsBehind spell Lawful tag bytes y r) p fits here there e
+  where
+    here : (y : B) (after : List ℕ) → k ≡ tag → Takes bytes (b.spell y) after → b.Lawful y → IsBehind spell Lawful tag bytes (to y) after
+    here y after is t l = let s = says y l in record { text = b.spell y; spells = s.0 ∙ ap (λ (n : ℕ). n ∷ b.spell y) is; taken = t; lawful = s.1 }
+
 -- what a codec reads again, it reads again for another type
 pub retyped_again : {A B : Type 0} (b : Codec B) (to : B → A) (y : B) (rest : List ℕ) → IsCodec b → b.Lawful y → (b.read (b.spell y ++ rest) >>= retyped to) ≡ Some (to y, rest)
 retyped_again {A} {B} b to y rest p lawful = ap (λ (o : Option (B × List ℕ)). o >>= retyped to) (p.again y rest lawful)
@@ -461,9 +469,8 @@ retyped_again {A} {B} b to y rest p lawful = ap (λ (o : Option (B × List ℕ))
 optional_tagged : {A : Type 0} (a : Codec A) → IsCodec a → IsTagged (optional_spell a.spell) (OptionalLawful a.Lawful) (optional_behind a)
 optional_tagged {A} a p = record {
   takes = λ tag bytes x rest fits e.
-      let P = λ (o : Option A) (r : List ℕ). IsBehind (optional_spell a.spell) (OptionalLawful a.Lawful) tag bytes o r in
-      on_tag_takes 0 tag empty (λ _. None) bytes _ x rest P empty_is fits (λ y after is t l. record { text = []; spells = ap (λ (k : ℕ). k ∷ []) is; taken = t; lawful = tt })
-      (on_tag_takes 1 tag a (λ y. Some y) bytes _ x rest P p fits (λ y after is t l. record { text = a.spell y; spells = ap (λ (k : ℕ). k ∷ a.spell y) is; taken = t; lawful = l })
+      on_tag_is 0 tag empty (λ _. None) bytes _ x rest empty_is fits (λ y l. (refl, tt))
+      (on_tag_is 1 tag a (λ y. Some y) bytes _ x rest p fits (λ y l. (refl, l))
       (λ none. absurd cc)) e;
   again = again_of;
 } where
@@ -497,3 +504,39 @@ literal_is text = record {
   guard_else : {A : Type 0} (b : Bool) (o : Option A) (y : A) → cond b None o ≡ Some y → (b ≡ false) × (o ≡ Some y)
   guard_else true o y e = absurd cc
   guard_else false o y e = (refl, e)
+
+-- ---- all of them
+
+pub whole_is : {A : Type 0} (a : Codec A) → IsCodec a → (bytes : List ℕ) (x : A) → IsBytes bytes → (whole a bytes ≡ Some x) ↔ ((bytes ≡ a.spell x) × a.Lawful x)
+whole_is a p bytes x fits = ((λ e. whole_takes a p bytes x fits e), (λ h. ap (whole a) h.0 ∙ whole_again a p x h.1))
+
+pub keep_codecs : {A B : Type 0} (p : Parts A B) → KeepCodecs p
+keep_codecs p = record {
+  number = number_is;
+  u8 = u8_is;
+  u16 = u16_is;
+  u32 = u32_is;
+  u64 = u64_is;
+  signed = λ w fits h. signed_is w fits p.count h;
+  i32 = i32_is;
+  i64 = i64_is;
+  byte = byte_is;
+  pair = λ h k. then_is p.a p.b h k;
+  then_by = λ h k. then_by_is p.a p.chosen h k;
+  mapped = λ to from back forth h. mapped_is to from p.a back forth h;
+  where_true = λ test h. where_true_is test p.a h;
+  times = λ n h. times_is n p.a h;
+  counted = λ h k. counted_is p.count p.a h k;
+  bytes_by = λ h. bytes_by_is p.count h;
+  whole = λ h bytes x fits. whole_is p.a h bytes x fits;
+  sized = λ limit small h. sized_is limit p.a small h;
+  empty = empty_is;
+  nothing = nothing_is;
+  literal = literal_is;
+  stated = λ to states h. stated_is to p.spell p.Lawful p.a states h;
+  of_parts = λ to from again back spells h. of_parts_is to from p.spell p.a again back spells h;
+  tagged = λ read_behind h. tagged_is p.spell p.Lawful read_behind h;
+  on_tag = λ k tag to bytes others y rest h says fits there e. on_tag_is k tag p.a to bytes others y rest h fits says there e;
+  optional = λ h. optional_is p.a h;
+  apart = λ h x y r s k l e. spell_apart p.a h x y r s k l e;
+}

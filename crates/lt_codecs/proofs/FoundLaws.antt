@@ -15,9 +15,11 @@ use Rattle.lt_codecs.specs.Codec.{Codec, IsBytes, u32}
 use Rattle.lt_codecs.specs.LogCodec.{found, found_sized, found_whole, item, item_body, log_value, value}
 use Rattle.lt_codecs.specs.Front.{DecidesWhole, FindsOne, ReadsValue, ReadsWhole, StaysFound}
 use Rattle.lt_codecs.proofs.Codecs.{IsBytes-drop, IsBytes-take, Takes, some, u32_is, spell_apart, unread, whole_again, whole_takes}
-use Rattle.lt_codecs.proofs.LogLaws.{first, heads, second, tails, together}
+use Rattle.std.proofs.lemmas.Bool.{and_from}
+use Rattle.lt_codecs.proofs.ListFacts.{first, heads, second, tails}
+use Rattle.lt_codecs.proofs.LogTests.{small_limit}
 use Rattle.lt_codecs.proofs.ValueCodecs.{log_value_is}
-use Rattle.lt_codecs.proofs.ItemCodecs.{item_body_is, item_is, small_limit}
+use Rattle.lt_codecs.proofs.ItemCodecs.{item_body_is, item_is}
 
 -- ---- the front that a codec takes
 
@@ -36,7 +38,7 @@ u32_spells : (n : ℕ) (rest : List ℕ) → n < 2 ^ 32 → u32.read (log.u32 n 
 unfolding u32
 u32_spells n rest h = u32_is.again n rest h
 
-kind_is : (f : Format) (i : Item) → IsTrue (is_content f i) → IsTrue (is_kind f (kind_byte i))
+pub kind_is : (f : Format) (i : Item) → IsTrue (is_content f i) → IsTrue (is_kind f (kind_byte i))
 kind_is format.One (header_item h) l = refl
 kind_is format.One (change_item c) l = refl
 kind_is format.One (checkpoint_item t) l = refl
@@ -65,7 +67,7 @@ framed f k l rest i fits small long e =
     let w = whole_takes (item_body f k) (item_body_is f k) (take l rest) i fits e in
     let len : length (body i) ≡ l = sym (ap length w.0) ∙ length_taken in
     record {
-      lawful = together (is_content f i) _ w.1.1 (le-leb _ _ (omega (arith, small, len)));
+      lawful = and_from (is_content f i) _ w.1.1 (le-leb _ _ (omega (arith, small, len)));
       spells = ap (λ (b : List ℕ). k ∷ (log.u32 l ++ b)) w.0 ∙ ap (λ (n : ℕ). k ∷ (log.u32 n ++ body i)) (sym len) ∙ ap (λ (n : ℕ). n ∷ log.bytes32 (body i)) (sym w.1.0);
     } where
       length_taken : length (take l rest) ≡ l

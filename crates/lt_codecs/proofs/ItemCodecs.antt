@@ -1,34 +1,25 @@
 -- The codecs of changes, headers and frames keep the laws, and what they read and spell is the log's grammar.
-use Rattle.std.proofs.Common.{eqb-true, subst, [], flat_map, map, Option, Some, None, ◌≡◌, ℕ, ◌+◌, ◌%◌, ◌^◌, ◌<◌, Bool, List, ◌∷◌, ◌++◌, length, refl, sym, ap, ◌∙◌, arith, leb-true, le-leb, ltb-true, lt-ltb}
+use Rattle.std.proofs.Common.{eqb-true, subst, [], flat_map, Option, Some, None, ◌≡◌, ℕ, ◌+◌, ◌%◌, ◌^◌, ◌<◌, Bool, List, ◌∷◌, ◌++◌, length, refl, sym, ap, ◌∙◌, arith, leb-true, le-leb, ltb-true, lt-ltb}
 use Rattle.std.specs.Option.{option_map, option_map_or}
+use Rattle.std.proofs.lemmas.Bool.{and_from}
 use Rattle.std.proofs.lemmas.Bool.Decides.{Decides-eqb}
-use Rattle.std.specs.Prelude.{◌==◌, nat_le, IsTrue, nat_lt, ◌&&◌}
-use Rattle.std.specs.List.{list_all, AllByRecursion}
+use Rattle.std.specs.Prelude.{nat_le, IsTrue, nat_lt, ◌&&◌}
 use Rattle.std.specs.Str.{is_utf8}
 use Rattle.lt_model.specs.declared.Op.{Op}
 use Rattle.lt_model.specs.declared.Op.TheVariants as ops
 use Rattle.lt_model.specs.declared.Format.{Format}
 use Rattle.lt_model.specs.declared.Format.TheVariants as format
 use Rattle.lt_model.specs.Key.{KeyPart, int_part, text_part, max_key}
-use Rattle.lt_model.specs.Value.{is_number, is_timestamp, rises_above}
+use Rattle.lt_model.specs.Value.{is_number, is_timestamp}
 use Rattle.lt_model.specs.Log as log
 use Rattle.lt_model.specs.Log.{Change, Header, Item, batch_item, body, change_body, change_item, change_key, checkpoint_item, close_item, header_body, header_item, is_change, is_content, is_header, is_item, is_log_part, is_log_value, is_two, kind_byte, log_part, magic, max_body, op_byte, setting_bytes, spelled, value_bytes}
 use Rattle.lt_codecs.specs.Codec as codec
 use Rattle.lt_codecs.specs.Codec.{Codec, IsBytes, OptionalLawful, empty, i64, on_tag, text32, bytes16, bytes32, u8, u16, u32, u64}
 use Rattle.lt_codecs.specs.LogCodec.{ChangeParts, HeaderParts, batch, body_behind, change, change_at, change_of, change_parts, close, fit_together, header, header_of, header_parts, item, item_body, log_value, op, op_behind, origin, only_two, part, part_behind, part_count, parts, settings, table_number, timestamp, value, version_number}
-use Rattle.lt_codecs.proofs.Codecs.{IsAgain, IsBehind, IsCodec, IsTagged, States, Takes, bytes16_is, counted_is, empty_is, i64_is, literal_is, on_tag_takes, optional_is, retyped_again, sized_is, stated_is, tagged_is, text32_is, then_by_is, then_is, u32_is, u64_is, u8_is, where_true_is}
-use Rattle.lt_codecs.proofs.LogLaws.{batch_is, change_fits, close_first, first, header_is, is_from, is_origin, is_setting, no_origin, number_below, second, together}
-use Rattle.lt_codecs.proofs.ValueCodecs.{log_value_is, settings_of_is}
-
--- ---- tests of lists, one by one
-
-all_pass : {A : Type 0} (test : A → Bool) (P : A → Type 0) → ((x : A) → P x → IsTrue (test x)) → (xs : List A) → AllByRecursion P xs → IsTrue (list_all test xs)
-all_pass test P one [] h = refl
-all_pass test P one (x ∷ xs) h = together (test x) _ (one x h.0) (all_pass test P one xs h.1)
-
-all_hold : {A : Type 0} (test : A → Bool) (P : A → Type 0) → ((x : A) → IsTrue (test x) → P x) → (xs : List A) → IsTrue (list_all test xs) → AllByRecursion P xs
-all_hold test P one [] h = tt
-all_hold test P one (x ∷ xs) h = (one x (first (test x) _ h), all_hold test P one xs (second (test x) _ h))
+use Rattle.lt_codecs.proofs.ListFacts.{all_hold, all_pass, first, second}
+use Rattle.lt_codecs.proofs.Codecs.{IsAgain, IsCodec, IsTagged, States, Takes, bytes16_is, counted_is, empty_is, i64_is, literal_is, on_tag_is, on_tag_takes, optional_is, retyped_again, sized_is, stated_is, tagged_is, text32_is, then_by_is, then_is, u32_is, u64_is, u8_is, where_true_is}
+use Rattle.lt_codecs.proofs.LogTests.{batch_is, change_fits, close_first, header_is, is_change_at, is_from, is_origin, is_setting, no_origin, number_below, small_limit}
+use Rattle.lt_codecs.proofs.ValueCodecs.{log_value_is, optional_spells, settings_of_is}
 
 -- ---- changes
 
@@ -36,9 +27,8 @@ part_tagged : IsTagged log_part (λ p. IsTrue (is_log_part p)) part_behind
 unfolding i64 u64 text32 bytes32 u32
 part_tagged = record {
   takes = λ tag bytes x rest fits e.
-      let P = λ (p : KeyPart) (r : List ℕ). IsBehind log_part (λ p. IsTrue (is_log_part p)) tag bytes p r in
-      on_tag_takes 1 tag i64 int_part bytes _ x rest P i64_is fits (λ y after is t l. record { text = i64.spell y; spells = ap (λ (k : ℕ). k ∷ i64.spell y) is; taken = t; lawful = l })
-      (on_tag_takes 2 tag text32 text_part bytes _ x rest P text32_is fits (λ y after is t l. record { text = text32.spell y; spells = ap (λ (k : ℕ). k ∷ text32.spell y) is; taken = t; lawful = together (is_utf8 y) _ l.1 (lt-ltb _ _ l.0) })
+      on_tag_is 1 tag i64 int_part bytes _ x rest i64_is fits (λ y l. (refl, l))
+      (on_tag_is 2 tag text32 text_part bytes _ x rest text32_is fits (λ y l. (refl, and_from (is_utf8 y) _ l.1 (lt-ltb _ _ l.0)))
       (λ none. absurd cc)) e;
   again = part_again;
 } where
@@ -56,10 +46,9 @@ op_bytes o = op_byte o ∷ []
 op_tagged : IsTagged op_bytes (λ _. Unit {0}) op_behind
 op_tagged = record {
   takes = λ tag bytes x rest fits e.
-      let P = λ (o : Op) (r : List ℕ). IsBehind op_bytes (λ _. Unit {0}) tag bytes o r in
-      on_tag_takes 1 tag empty (λ _. ops.Insert) bytes _ x rest P empty_is fits (λ y after is t l. record { text = []; spells = ap (λ (k : ℕ). k ∷ []) is; taken = t; lawful = tt })
-      (on_tag_takes 2 tag empty (λ _. ops.Update) bytes _ x rest P empty_is fits (λ y after is t l. record { text = []; spells = ap (λ (k : ℕ). k ∷ []) is; taken = t; lawful = tt })
-      (on_tag_takes 3 tag empty (λ _. ops.Delete) bytes _ x rest P empty_is fits (λ y after is t l. record { text = []; spells = ap (λ (k : ℕ). k ∷ []) is; taken = t; lawful = tt })
+      on_tag_is 1 tag empty (λ _. ops.Insert) bytes _ x rest empty_is fits (λ y l. (refl, tt))
+      (on_tag_is 2 tag empty (λ _. ops.Update) bytes _ x rest empty_is fits (λ y l. (refl, tt))
+      (on_tag_is 3 tag empty (λ _. ops.Delete) bytes _ x rest empty_is fits (λ y l. (refl, tt))
       (λ none. absurd cc))) e;
   again = λ x rest h. op_again x rest;
 } where
@@ -104,9 +93,6 @@ change_parts_is =
     (then_is version_number (codec.◌then◌ op (codec.◌then◌ parts settings)) version_number_is
     (then_is op (codec.◌then◌ parts settings) op_is (then_is parts settings parts_is settings_is))))
 
-abbrev is_change_at : ℕ → Change → Bool
-is_change_at ts c = is_change c && c.ts == ts
-
 -- the parts of a change
 abbrev parts_of : Change → ChangeParts
 parts_of c = (c.table, (c.version, (c.op, (c.key, c.set))))
@@ -127,7 +113,7 @@ change_comes ts c h =
     let few : length c.key < 2 ^ 8 = omega (arith, leb-true (length c.key) 8 (second (nat_lt 0 (length c.key)) _ f.some_parts)) in
     let key = all_hold is_log_part (λ k. IsTrue (is_log_part k)) (λ k i. i) c.key f.parts in
     let set = all_hold is_setting (λ s. ((s.0 < 2 ^ 16) × IsTrue (is_number s.0)) × IsTrue (is_log_value s.1)) (λ s i. let n = first (is_number s.0) _ i in ((number_below s.0 n, n), second (is_number s.0) _ i)) c.set f.set in
-    let apart : (change_parts.Lawful (parts_of c)) = (((f.table, f.number), ((f.version, f.versions), (tt, (((few, f.some_parts), key), ((f.few, set), f.rises))))), together (nat_le (length (change_key c)) max_key) _ f.short_key f.bare) in
+    let apart : (change_parts.Lawful (parts_of c)) = (((f.table, f.number), ((f.version, f.versions), (tt, (((few, f.some_parts), key), ((f.few, set), f.rises))))), and_from (nat_le (length (change_key c)) max_key) _ f.short_key f.bare) in
     (parts_of c, (λ i. record { ts = at i; table = c.table; version = c.version; op = c.op; key = c.key; set = c.set }), apart)
 
 change_made : (ts : ℕ) → IsTrue (is_timestamp ts) → (p : ChangeParts) → change_parts.Lawful p → IsTrue (is_change_at ts (change_of ts p)) × (change_parts.spell p ≡ change_body (change_of ts p))
@@ -138,28 +124,14 @@ change_made ts moment p h =
     let version = h.0.1.0 in
     let key = h.0.1.1.1.0 in
     let set = h.0.1.1.1.1 in
-    let a1 = is_timestamp c.ts in
-    let a2 = a1 && is_number c.table in
-    let a3 = a2 && nat_lt 0 c.version in
-    let a4 = a3 && nat_le c.version 256 in
-    let a5 = a4 && nat_lt 0 (length c.key) in
-    let a6 = a5 && nat_le (length c.key) 8 in
-    let a7 = a6 && list_all is_log_part c.key in
-    let a8 = a7 && nat_le (length (change_key c)) max_key in
-    let a9 = a8 && rises_above 0 (map (λ s. s.0) c.set) in
-    let a10 = a9 && list_all is_setting c.set in
-    let h2 = together a1 _ moment table.1 in
-    let h3 = together a2 _ h2 (first (nat_lt 0 c.version) _ version.1) in
-    let h4 = together a3 _ h3 (second (nat_lt 0 c.version) _ version.1) in
-    let h5 = together a4 _ h4 (first (nat_lt 0 (length c.key)) _ key.0.1) in
-    let h6 = together a5 _ h5 (second (nat_lt 0 (length c.key)) _ key.0.1) in
-    let h7 = together a6 _ h6 (all_pass is_log_part (λ k. IsTrue (is_log_part k)) (λ k i. i) c.key key.1) in
-    let h8 = together a7 _ h7 (first (nat_le (length (change_key c)) max_key) _ h.1) in
-    let h9 = together a8 _ h8 set.1 in
-    let pass = all_pass is_setting (λ s. ((s.0 < 2 ^ 16) × IsTrue (is_number s.0)) × IsTrue (is_log_value s.1)) (λ s i. together (is_number s.0) _ i.0.1 i.1) c.set set.0.1 in
-    let h10 = together a9 _ h9 pass in
-    let all : IsTrue (is_change c) = together a10 _ h10 (second (nat_le (length (change_key c)) max_key) _ h.1) in
-    (together (is_change c) _ all ((Decides-eqb ts ts).1 refl), change_spells ts p key.0.0)
+    let most = and_from _ _ (and_from _ _ moment table.1) (first (nat_lt 0 c.version) _ version.1) in
+    let numbers = and_from _ _ most (second (nat_lt 0 c.version) _ version.1) in
+    let some = and_from _ _ (and_from _ _ numbers (first (nat_lt 0 (length c.key)) _ key.0.1)) (second (nat_lt 0 (length c.key)) _ key.0.1) in
+    let parts = and_from _ _ some (all_pass is_log_part (λ k. IsTrue (is_log_part k)) (λ k i. i) c.key key.1) in
+    let short = and_from _ _ parts (first (nat_le (length (change_key c)) max_key) _ h.1) in
+    let pass = all_pass is_setting (λ s. ((s.0 < 2 ^ 16) × IsTrue (is_number s.0)) × IsTrue (is_log_value s.1)) (λ s i. and_from (is_number s.0) _ i.0.1 i.1) c.set set.0.1 in
+    let all : IsTrue (is_change c) = and_from _ _ (and_from _ _ (and_from _ _ short set.1) pass) (second (nat_le (length (change_key c)) max_key) _ h.1) in
+    (and_from (is_change c) _ all ((Decides-eqb ts ts).1 refl), change_spells ts p key.0.0)
 
 change_states : (ts : ℕ) → IsTrue (is_timestamp ts) → States (change_of ts) change_body (λ c. IsTrue (is_change_at ts c)) change_parts
 change_states ts moment = record { made = change_made ts moment; comes = change_comes ts }
@@ -185,7 +157,7 @@ change_at_time = record {
       (first (is_change p.1) _ h.1, ap (λ (t : ℕ). log.u64 t ++ change_body p.1) at);
   comes = λ c h.
       let f = change_fits c h in
-      ((c.ts, c), refl, ((f.ts, f.moment), together (is_change c) _ h ((Decides-eqb c.ts c.ts).1 refl)));
+      ((c.ts, c), refl, ((f.ts, f.moment), and_from (is_change c) _ h ((Decides-eqb c.ts c.ts).1 refl)));
 }
 
 pub change_is : IsCodec change
@@ -211,8 +183,7 @@ header_parts_is f =
 
 pub high_spells : (high : Option (List ℕ)) → codec.optional_spell bytes16.spell high ≡ log.optional log.bytes16 high
 unfolding bytes16 u16
-high_spells None = refl
-high_spells (Some high) = refl
+high_spells high = optional_spells log.bytes16 high
 
 origin_two_spells : (o : Option (ℕ × ℕ)) → (origin format.Two).spell o ≡ log.optional (λ p. log.u32 p ++ log.u64 (option_map_or (λ o. o.1) o 0)) (option_map (λ o. o.0) o)
 unfolding u32 u64
@@ -276,25 +247,12 @@ close_is = where_true_is close_fits (codec.◌then◌ u32 u8) (then_is u32 u8 u3
 batch_lawful : (f : Format) (p : ℕ × List Change) → (only_two f batch).Lawful p → IsTrue (is_content f (batch_item p.0 p.1))
 unfolding batch timestamp u32
 batch_lawful f p h =
-    let a1 = is_two f && is_timestamp p.0 in
-    let a2 = a1 && nat_lt 0 (length p.1) in
-    let a3 = a2 && nat_lt (length p.1) (2 ^ 32) in
-    let h1 = together (is_two f) _ h.1 h.0.0.1 in
-    let h2 = together a1 _ h1 h.0.1.1 in
-    let h3 = together a2 _ h2 (lt-ltb _ _ h.0.1.0.0) in
-    together a3 _ h3 (all_pass (is_change_at p.0) (λ c. IsTrue (is_change_at p.0 c)) (λ c i. i) p.1 h.0.1.0.1)
+    let some = and_from _ _ (and_from (is_two f) _ h.1 h.0.0.1) h.0.1.1 in
+    and_from _ _ (and_from _ _ some (lt-ltb _ _ h.0.1.0.0)) (all_pass (is_change_at p.0) (λ c. IsTrue (is_change_at p.0 c)) (λ c i. i) p.1 h.0.1.0.1)
 
 batch_comes : (f : Format) (t : ℕ) (cs : List Change) → IsTrue (is_content f (batch_item t cs)) → (only_two f batch).Lawful (t, cs)
 unfolding batch timestamp u32 u64
-batch_comes f t cs h =
-    let a1 = is_two f && is_timestamp t in
-    let a2 = a1 && nat_lt 0 (length cs) in
-    let a3 = a2 && nat_lt (length cs) (2 ^ 32) in
-    let h3 : IsTrue a3 = first a3 _ h in
-    let h2 : IsTrue a2 = first a2 _ h3 in
-    let h1 : IsTrue a1 = first a1 _ h2 in
-    let b = batch_is f t cs h in
-    (((b.ts, second (is_two f) _ h1), ((b.few, all_hold (is_change_at t) (λ c. IsTrue (is_change_at t c)) (λ c i. i) cs b.changes), second a1 _ h2)), first (is_two f) _ h1)
+batch_comes f t cs h = let b = batch_is f t cs h in (((b.ts, b.moment), ((b.few, all_hold (is_change_at t) (λ c. IsTrue (is_change_at t c)) (λ c i. i) cs b.changes), b.some)), b.two)
 
 close_lawful : (f : Format) (p : ℕ × ℕ) → (only_two f close).Lawful p → IsTrue (is_content f (close_item p.0 p.1))
 unfolding close
@@ -302,7 +260,7 @@ close_lawful f p h =
     let one = nat_lt 0 p.1 && nat_lt p.1 256 in
     let some = first (nat_lt 0 p.1) _ (first one _ h.0.1) in
     let few = second (nat_lt 0 p.1) _ (first one _ h.0.1) in
-    together (is_two f && nat_lt 0 p.1 && nat_lt p.1 256) _ (together (is_two f && nat_lt 0 p.1) _ (together (is_two f) _ h.1 some) few) (second one _ h.0.1)
+    and_from (is_two f && nat_lt 0 p.1 && nat_lt p.1 256) _ (and_from (is_two f && nat_lt 0 p.1) _ (and_from (is_two f) _ h.1 some) few) (second one _ h.0.1)
 
 close_comes : (f : Format) (n count : ℕ) → IsTrue (is_content f (close_item n count)) → (only_two f close).Lawful (n, count)
 unfolding close u32 u8
@@ -312,7 +270,7 @@ close_comes f n count h =
     let h2 : IsTrue a2 = first a2 _ h in
     let h1 : IsTrue a1 = first a1 _ h2 in
     let few = second a1 _ h2 in
-    let fits = together (nat_lt 0 count && nat_lt count 256) _ (together (nat_lt 0 count) _ (second (is_two f) _ h1) few) (second a2 _ h) in
+    let fits = and_from (nat_lt 0 count && nat_lt count 256) _ (and_from (nat_lt 0 count) _ (second (is_two f) _ h1) few) (second a2 _ h) in
     (((close_first f n count h, omega (arith, ltb-true count 256 few)), fits), first (is_two f) _ h1)
 
 close_spells : (p : ℕ × ℕ) → close.Lawful p → close.spell p ≡ body (close_item p.0 p.1)
@@ -351,10 +309,6 @@ item_body_is f kind = record {
   again = λ x rest h. subst (λ (k : ℕ). body_behind f k (body x ++ rest) ≡ Some (x, rest)) h.0 (body_at_kind f x rest h.1);
 }
 
-pub small_limit : (f : Format) → max_body f < 2 ^ 32
-small_limit format.One = omega arith
-small_limit format.Two = omega arith
-
 pub small_kind : (i : Item) → kind_byte i < 256
 small_kind (header_item h) = omega arith
 small_kind (change_item c) = omega arith
@@ -370,7 +324,7 @@ unfolding spelled item_body u32
 frame_tagged f = record {
   takes = λ tag bytes x rest fits e.
       let t = (sized_is (max_body f) (item_body f tag) (small_limit f) (item_body_is f tag)).takes bytes x rest fits e in
-      record { text = log.bytes32 (body x); spells = ap (λ (k : ℕ). k ∷ log.bytes32 (body x)) t.1.0.0; taken = t.0; lawful = together (is_content f x) _ t.1.0.1 (le-leb _ _ t.1.1) };
+      record { text = log.bytes32 (body x); spells = ap (λ (k : ℕ). k ∷ log.bytes32 (body x)) t.1.0.0; taken = t.0; lawful = and_from (is_content f x) _ t.1.0.1 (le-leb _ _ t.1.1) };
   again = λ x rest h.
       let kind = kind_byte x in
       let lawful : (codec.sized (max_body f) (item_body f kind)).Lawful x = ((refl, first (is_content f x) _ h), leb-true _ _ (second (is_content f x) _ h)) in

@@ -1,6 +1,6 @@
 -- The order of keys' bytes is the order of their parts, and equal bytes are equal keys.
-use Rattle.std.proofs.Common.{◌≡◌, ℕ, zero, suc, ◌+◌, ◌-◌, ◌*◌, ◌/◌, ◌%◌, ◌^◌, ◌<◌, ◌≤◌, Bool, true, false, List, [], ◌∷◌, ◌++◌, length, ℤ, pos, negsuc, ◌<ℤ◌, refl, sym, ap, ◌∙◌, append_assoc, arith, pow-suc, mul-le-mul_right, suc-mul, mod-lt, append-nil, ltb-true, ltb→lt, leb-true, mod-eq_of_lt, div-one, div-add-mod', add-mul, mul_assoc, mul_comm}
-use Rattle.std.specs.Prelude.{IsTrue, nat_le, ◌&&◌, flat_map}
+use Rattle.std.proofs.Common.{◌≡◌, ℕ, zero, suc, ◌+◌, ◌-◌, ◌*◌, ◌/◌, ◌%◌, ◌^◌, ◌<◌, ◌≤◌, true, List, [], ◌∷◌, ◌++◌, length, ℤ, pos, negsuc, ◌<ℤ◌, refl, sym, ap, ◌∙◌, append_assoc, arith, pow-suc, mul-le-mul_right, suc-mul, mod-lt, append-nil, ltb-true, ltb→lt, leb-true, mod-eq_of_lt, div-one, div-add-mod', add-mul, mul_assoc, mul_comm}
+use Rattle.std.specs.Prelude.{IsTrue, nat_le, flat_map}
 use Rattle.std.specs.Cmp.{ranks, nat_cmp_is, int_ranks}
 use Rattle.std.specs.declared.cmp.Ordering.{Ordering}
 use Rattle.std.specs.declared.cmp.Ordering.TheVariants.{Less, Equal, Greater}
@@ -12,7 +12,8 @@ use Rattle.lt_model.specs.declared.KeyKind.{KeyKind}
 use Rattle.lt_model.specs.declared.KeyKind.TheVariants as key_kind
 use Rattle.lt_model.specs.Value.{fits_64}
 use Rattle.lt_model.specs.Key.{AreKeysPrefixFree, KeepsOrder, KeyPart, bytes_cmp, escaped, int_part, is_key_of, is_part_of, key_bytes, key_cmp, number_key, part_bytes, part_cmp, text_part}
-use Rattle.lt_codecs.proofs.KeyLemmas.{escaped_cmp}
+use Rattle.lt_codecs.proofs.KeyLemmas.{escaped_cmp, then_assoc}
+use Rattle.lt_codecs.proofs.ListFacts.{first, second}
 
 -- ---- numbers, the greatest byte first
 
@@ -70,11 +71,6 @@ to_be_bytes_cmp_4 a b h i = high_first_cmp 4 a b ∙ ap (λ t. nat_cmp t (b % 2 
 
 -- ---- one text after another
 
-then_assoc : (a b c : Ordering) → ordering_then a (ordering_then b c) ≡ ordering_then (ordering_then a b) c
-then_assoc Less b c = refl
-then_assoc Equal b c = refl
-then_assoc Greater b c = refl
-
 then_equal : (a : Ordering) → ordering_then a Equal ≡ a
 then_equal Less = refl
 then_equal Equal = refl
@@ -96,10 +92,6 @@ itself [] = refl
 itself (a ∷ at) = ap (λ o. ordering_then o (bytes_cmp at at)) (sym (nat_cmp_is a a Equal refl)) ∙ itself at
 
 -- ---- signed numbers
-
-first : (a b : Bool) → IsTrue (a && b) → IsTrue a
-first true b h = refl
-first false b h = h
 
 key_below : (z : ℤ) → IsTrue (fits_64 z) → number_key z < 2 ^ 64
 key_below (pos n) h = omega (arith, ltb-true n (2 ^ 63) h)
@@ -132,10 +124,6 @@ part_bytes_cmp key_kind.Int64 (text_part s) q x y h i = absurd cc
 part_bytes_cmp key_kind.Text (int_part a) q x y h i = absurd cc
 part_bytes_cmp key_kind.Text (text_part s) (int_part b) x y h i = absurd cc
 part_bytes_cmp key_kind.Text (text_part s) (text_part t) x y h i = rw (append_assoc (escaped s) (0 ∷ 1 ∷ []) x, append_assoc (escaped t) (0 ∷ 1 ∷ []) y) (escaped_cmp s t x y)
-
-second : (a b : Bool) → IsTrue (a && b) → IsTrue b
-second true b h = h
-second false b h = absurd cc
 
 parts_cmp : (ks : List KeyKind) (ps qs : List KeyPart) (x y : List ℕ) → IsTrue (is_key_of ks ps) → IsTrue (is_key_of ks qs)
     → bytes_cmp (flat_map part_bytes ps ++ x) (flat_map part_bytes qs ++ y) ≡ ordering_then (key_cmp ps qs) (bytes_cmp x y)

@@ -1,5 +1,5 @@
 -- The codec of values keeps the laws, and what it reads and spells is the log's grammar.
-use Rattle.std.proofs.Common.{subst, [], flat_map, map, Some, ◌≡◌, ℕ, zero, suc, ◌-◌, ◌%◌, ◌^◌, ◌<◌, Bool, true, false, List, ◌∷◌, ◌++◌, length, refl, sym, ap, ◌∙◌, append_assoc, arith, ltb-true, lt-ltb}
+use Rattle.std.proofs.Common.{subst, [], flat_map, map, Option, None, Some, ◌≡◌, ℕ, zero, suc, ◌-◌, ◌%◌, ◌^◌, ◌<◌, Bool, true, false, List, ◌∷◌, ◌++◌, length, refl, sym, ap, ◌∙◌, append_assoc, arith, ltb-true, lt-ltb}
 use Rattle.std.specs.Prelude.{◌==◌, IsTrue, nat_lt, ◌&&◌}
 use Rattle.std.specs.List.{AllByRecursion}
 use Rattle.std.specs.Str.{is_utf8}
@@ -9,13 +9,15 @@ use Rattle.lt_model.specs.Log as log
 use Rattle.lt_codecs.specs.Codec as codec
 use Rattle.std.proofs.lemmas.List.Concat.{flat_map-cons}
 use Rattle.lt_codecs.specs.Codec.{Codec, IsBytes, empty, nothing, on_tag, u8, i64, text32, bytes32, u16, u32, u64}
-use Rattle.lt_codecs.specs.LogCodec.{fields, flag, log_value, settings_of, value, value_behind, value_of}
-use Rattle.lt_codecs.proofs.Codecs.{IsAgain, IsBehind, IsCodec, IsTagged, States, counted_is, empty_is, i64_is, bytes32_is, nothing_is, on_tag_takes, retyped_again, stated_is, tagged_is, text32_is, then_is, u16_is, u8_is, where_true_is}
-use Rattle.lt_codecs.proofs.LogLaws.{together, first, second, field_is, few_fields}
+use Rattle.lt_codecs.specs.LogCodec.{fields, flag, log_value, settings_of, value, value_behind, value_holding}
+use Rattle.lt_codecs.proofs.Codecs.{IsAgain, IsCodec, IsTagged, States, counted_is, empty_is, i64_is, bytes32_is, nothing_is, on_tag_is, retyped_again, stated_is, tagged_is, text32_is, then_is, u16_is, u8_is, where_true_is}
+use Rattle.std.proofs.lemmas.Bool.{and_from}
+use Rattle.lt_codecs.proofs.ListFacts.{first, second}
+use Rattle.lt_codecs.proofs.LogTests.{field_is, few_fields}
 
 -- ---- values
 
-bit_again : (n : ℕ) → n < 2 → bit (n == 1) ≡ n
+pub bit_again : (n : ℕ) → n < 2 → bit (n == 1) ≡ n
 bit_again zero h = refl
 bit_again (suc zero) h = refl
 bit_again (suc (suc n)) h = absurd (omega (arith, h))
@@ -58,13 +60,12 @@ value_tagged : (depth : ℕ) (fs : Codec (List (ℕ × Value))) → IsCodec fs �
 unfolding flag u8 i64 u64 text32 bytes32 u32
 value_tagged depth fs p holds = record {
   takes = λ tag bytes x rest fits e.
-      let P = λ (v : Value) (r : List ℕ). IsBehind value_bytes (λ v. IsTrue (is_value depth v)) tag bytes v r in
-      on_tag_takes 0 tag empty (λ _. null_value) bytes _ x rest P empty_is fits (λ y after is t l. record { text = []; spells = ap (λ (k : ℕ). k ∷ []) is; taken = t; lawful = refl })
-      (on_tag_takes 1 tag flag bool_value bytes _ x rest P flag_is fits (λ y after is t l. record { text = flag.spell y; spells = ap (λ (k : ℕ). k ∷ flag.spell y) is; taken = t; lawful = refl })
-      (on_tag_takes 2 tag i64 int_value bytes _ x rest P i64_is fits (λ y after is t l. record { text = i64.spell y; spells = ap (λ (k : ℕ). k ∷ i64.spell y) is; taken = t; lawful = l })
-      (on_tag_takes 3 tag text32 text_value bytes _ x rest P text32_is fits (λ y after is t l. record { text = text32.spell y; spells = ap (λ (k : ℕ). k ∷ text32.spell y) is; taken = t; lawful = together (is_utf8 y) _ l.1 (lt-ltb _ _ l.0) })
-      (on_tag_takes 4 tag bytes32 bytes_value bytes _ x rest P bytes32_is fits (λ y after is t l. record { text = bytes32.spell y; spells = ap (λ (k : ℕ). k ∷ bytes32.spell y) is; taken = t; lawful = lt-ltb _ _ l })
-      (on_tag_takes 5 tag fs (λ ss. struct_value (fields_of ss)) bytes _ x rest P p fits (λ y after is t l. record { text = fs.spell y; spells = sym (holds.made y l).1 ∙ ap (λ (k : ℕ). k ∷ fs.spell y) is; taken = t; lawful = (holds.made y l).0 })
+      on_tag_is 0 tag empty (λ _. null_value) bytes _ x rest empty_is fits (λ y l. (refl, refl))
+      (on_tag_is 1 tag flag bool_value bytes _ x rest flag_is fits (λ y l. (refl, refl))
+      (on_tag_is 2 tag i64 int_value bytes _ x rest i64_is fits (λ y l. (refl, l))
+      (on_tag_is 3 tag text32 text_value bytes _ x rest text32_is fits (λ y l. (refl, and_from (is_utf8 y) _ l.1 (lt-ltb _ _ l.0)))
+      (on_tag_is 4 tag bytes32 bytes_value bytes _ x rest bytes32_is fits (λ y l. (refl, lt-ltb _ _ l))
+      (on_tag_is 5 tag fs (λ ss. struct_value (fields_of ss)) bytes _ x rest p fits (λ y l. (sym (holds.made y l).1, (holds.made y l).0))
       (λ none. absurd cc)))))) e;
   again = λ x rest lawful. value_again depth fs p holds x rest lawful;
 } where
@@ -81,8 +82,8 @@ value_tagged depth fs p holds = record {
       let reads = retyped_again fs (λ ss. struct_value (fields_of ss)) (field_list gs) rest p l ∙ ap (λ (fs : Fields). Some (struct_value fs, rest)) again in
       record { tag = 5; text = fs.spell (field_list gs); small = omega arith; spells = sym spells; reads = reads }
 
-pub value_of_is : (depth : ℕ) (fs : Codec (List (ℕ × Value))) → IsCodec fs → HoldsFields depth fs → IsCodec (value_of depth fs)
-value_of_is depth fs p holds = tagged_is value_bytes (λ v. IsTrue (is_value depth v)) (value_behind fs) (value_tagged depth fs p holds)
+pub value_holding_is : (depth : ℕ) (fs : Codec (List (ℕ × Value))) → IsCodec fs → HoldsFields depth fs → IsCodec (value_holding depth fs)
+value_holding_is depth fs p holds = tagged_is value_bytes (λ v. IsTrue (is_value depth v)) (value_behind fs) (value_tagged depth fs p holds)
 
 -- numbers and values of a depth, one by one
 abbrev pub AreSettings : ℕ → List (ℕ × Value) → Type 0
@@ -94,8 +95,8 @@ rising low ss = rises_above low (map (λ s. s.0) ss)
 fields_made : (depth low : ℕ) (ss : List (ℕ × Value)) → AreSettings depth ss → IsTrue (rising low ss) → IsTrue (are_fields depth low (fields_of ss))
 fields_made depth low [] h up = refl
 fields_made depth low (s ∷ ss) h up =
-    together (is_number s.0 && nat_lt low s.0 && is_value depth s.1) _
-    (together (is_number s.0 && nat_lt low s.0) _ (together (is_number s.0) _ h.0.0.1 (first (nat_lt low s.0) _ up)) h.0.1)
+    and_from (is_number s.0 && nat_lt low s.0 && is_value depth s.1) _
+    (and_from (is_number s.0 && nat_lt low s.0) _ (and_from (is_number s.0) _ h.0.0.1 (first (nat_lt low s.0) _ up)) h.0.1)
     (fields_made depth s.0 ss h.1 (second (nat_lt low s.0) _ up))
 
 pub fields_come : (depth low : ℕ) (gs : Fields) → IsTrue (are_fields depth low gs) → AreSettings depth (field_list gs) × IsTrue (rising low (field_list gs))
@@ -104,14 +105,14 @@ fields_come depth low (field_value n v gs) h =
     let f = field_is depth low n v gs h in
     let g = fields_come depth n gs f.others in
     let number : IsTrue (is_number n) = first (is_number n) _ (first (is_number n && nat_lt low n) _ (first (is_number n && nat_lt low n && is_value depth v) _ h)) in
-    ((((f.number, number), f.value), g.0), together (nat_lt low n) _ (lt-ltb low n f.up) g.1)
+    ((((f.number, number), f.value), g.0), and_from (nat_lt low n) _ (lt-ltb low n f.up) g.1)
 
 pub settings_of_is : (value : Codec Value) → IsCodec value → IsCodec (settings_of value)
 settings_of_is value p =
     where_true_is (rising 0) (codec.counted u16 (codec.◌then◌ (codec.where_true is_number u16) value))
     (counted_is u16 (codec.◌then◌ (codec.where_true is_number u16) value) u16_is (then_is (codec.where_true is_number u16) value (where_true_is is_number u16 u16_is) p))
 
-settings_hold : (depth : ℕ) (fs : Codec (List (ℕ × Value))) → HoldsFields (suc depth) (settings_of (value_of depth fs))
+settings_hold : (depth : ℕ) (fs : Codec (List (ℕ × Value))) → HoldsFields (suc depth) (settings_of (value_holding depth fs))
 unfolding u16
 settings_hold depth fs =
     let one : suc depth - 1 ≡ depth = omega arith in
@@ -121,7 +122,7 @@ settings_hold depth fs =
           let at : IsTrue (are_fields (suc depth - 1) 0 (fields_of ss)) = subst (λ d. IsTrue (are_fields d 0 (fields_of ss))) (sym one) are in
           let spells : 5 ∷ (log.u16 (length ss) ++ flat_map setting_bytes ss) ≡ value_bytes (struct_value (fields_of ss)) =
           ap (λ (n : ℕ). 5 ∷ (log.u16 n ++ flat_map setting_bytes ss)) (sym (ap length (list_again ss))) ∙ ap (λ (t : List ℕ). 5 ∷ (log.u16 (length (field_list (fields_of ss))) ++ t)) (sym (fields_bytes ss)) in
-          (together (nat_lt 0 (suc depth)) _ (lt-ltb 0 (suc depth) (omega arith)) at, spells);
+          (and_from (nat_lt 0 (suc depth)) _ (lt-ltb 0 (suc depth) (omega arith)) at, spells);
       comes = λ gs h.
           let at : IsTrue (are_fields (suc depth - 1) 0 gs) = second (nat_lt 0 (suc depth)) _ h in
           let are : IsTrue (are_fields depth 0 gs) = subst (λ d. IsTrue (are_fields d 0 gs)) one at in
@@ -132,11 +133,16 @@ settings_hold depth fs =
 fields_are : (depth : ℕ) → IsCodec (fields depth) × HoldsFields depth (fields depth)
 unfolding fields
 fields_are zero = (nothing_is, record { made = λ ss h. absurd h; comes = λ gs h. absurd cc })
-fields_are (suc depth) = let f = fields_are depth in (settings_of_is (value_of depth (fields depth)) (value_of_is depth (fields depth) f.0 f.1), settings_hold depth (fields depth))
+fields_are (suc depth) = let f = fields_are depth in (settings_of_is (value_holding depth (fields depth)) (value_holding_is depth (fields depth) f.0 f.1), settings_hold depth (fields depth))
+
+-- the two ways to say a value or none
+pub optional_spells : {A : Type 0} (spell : A → List ℕ) (o : Option A) → codec.optional_spell spell o ≡ log.optional spell o
+optional_spells spell None = refl
+optional_spells spell (Some x) = refl
 
 pub value_is : (depth : ℕ) → IsCodec (value depth)
 unfolding value
-value_is depth = let f = fields_are depth in value_of_is depth (fields depth) f.0 f.1
+value_is depth = let f = fields_are depth in value_holding_is depth (fields depth) f.0 f.1
 
 pub log_value_is : IsCodec log_value
 unfolding log_value

@@ -2,9 +2,18 @@
 use Rattle.std.specs.Prelude.{ℕ, List, None, Some, ◌++◌, ◌-◌, ◌≡◌, ◌⊎◌, drop, length}
 use Rattle.lt_model.specs.declared.Format.{Format}
 use Rattle.lt_model.specs.Value.{Value}
-use Rattle.lt_model.specs.Log.{Found, HasNoValue, IsFound, IsValueFront, Item, partial, whole}
-use Rattle.lt_codecs.specs.Codec.{IsBytes}
-use Rattle.lt_codecs.specs.LogCodec.{found, item, log_value}
+use Rattle.lt_model.specs.Log.{Found, HasNoValue, IsFound, IsValueFront, Item, body, change_body, header_body, log_part, partial, spelled, u64, value_bytes, whole}
+use Rattle.lt_codecs.specs.Codec.{IsBytes, ReadsBack}
+use Rattle.lt_codecs.specs.LogCodec.{change, found, header, item, item_body, log_value, part, value}
+
+-- each codec of the log reads what the log's grammar spells
+pub record LogCodecs : Type 0 where
+  pub values : (depth : ℕ) → ReadsBack (value depth) value_bytes
+  pub key_parts : ReadsBack part log_part
+  pub changes : ReadsBack change (λ c. u64 c.ts ++ change_body c)
+  pub headers : (f : Format) → ReadsBack (header f) header_body
+  pub bodies : (f : Format) (kind : ℕ) → ReadsBack (item_body f kind) body
+  pub frames : (f : Format) → ReadsBack (item f) spelled
 
 -- exactly one thing is found at the front of bytes, and it can be computed
 abbrev pub FindsOne : Type 0

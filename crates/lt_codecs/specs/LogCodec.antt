@@ -33,17 +33,17 @@ value_behind fields tag bytes =
     (on_tag 5 tag fields (λ fs. struct_value (fields_of fs)) bytes None)))))
 
 -- the values that nest at most so deep, given what a struct holds
-abbrev pub value_of : ℕ → Codec (List (ℕ × Value)) → Codec Value
-value_of depth fields = tagged value_bytes (λ v. IsTrue (is_value depth v)) (value_behind fields)
+abbrev pub value_holding : ℕ → Codec (List (ℕ × Value)) → Codec Value
+value_holding depth fields = tagged value_bytes (λ v. IsTrue (is_value depth v)) (value_behind fields)
 
 -- what a struct holds that nests at most so deep
 unfoldable pub fields : ℕ → Codec (List (ℕ × Value))
 fields zero = nothing
-fields (suc depth) = settings_of (value_of depth (fields depth))
+fields (suc depth) = settings_of (value_holding depth (fields depth))
 
 -- a value that nests at most so deep
 unfoldable pub value : ℕ → Codec Value
-value depth = value_of depth (fields depth)
+value depth = value_holding depth (fields depth)
 
 -- a value of a log
 unfoldable pub log_value : Codec Value
