@@ -24,9 +24,9 @@ use Rattle.lt_laws.proofs.PointLaws.{when_none}
 use Rattle.lt_laws.proofs.StepLaws.{KeepsDoing, if_some, next_generation, unrefused}
 use Rattle.lt_model.specs.Sound.{AreAtPlaces, Fronts, FrontsFrom, IsGood, JobBegan, JobStands, ListsAll, PendingOf, PendingOfAll, SoundPart, SoundParts, items_before, passed, row_cells, source_of, up_to_ts}
 use Rattle.lt_laws.proofs.AnswerLaws.{IsSound, named_is_numbered, sound_from}
-use Rattle.lt_laws.proofs.CoerceLaws.{AreLong, effect_coerced, in_map}
-use Rattle.lt_laws.proofs.JobLaws.{from_map, puts_from}
-use Rattle.lt_laws.proofs.ListFacts.{all_append, all_at, all_filter, all_from, all_front, all_map, find_held}
+use Rattle.lt_laws.proofs.CoerceLaws.{AreLong, effect_coerced}
+use Rattle.lt_laws.proofs.JobLaws.{puts_from}
+use Rattle.lt_laws.proofs.ListFacts.{all_append, all_at, all_filter, all_from, all_front, all_map, find_held, from_map, in_map}
 use Rattle.lt_laws.proofs.FairLaws.{row_stays}
 use Rattle.lt_laws.proofs.FrontLaws.{fronts_stay, grows_itself}
 use Rattle.lt_laws.proofs.PointLaws.{same}
@@ -80,11 +80,11 @@ map_length : {A B : Type 0} (f : A → B) (xs : List A) → length (map f xs) �
 map_length f [] = refl
 map_length f (x ∷ xs) = ap suc (map_length f xs)
 
-coerce_length : (from to : List Leaf) (cells : List Cell) → length (coerce from to cells) ≡ length to
+pub coerce_length : (from to : List Leaf) (cells : List Cell) → length (coerce from to cells) ≡ length to
 unfolding coerce
 coerce_length from to cells = map_length _ to
 
-carried_long : (cat : Catalogue) (n : ℕ) (x : Delta) (v : RowVersion) → Contains (carried_versions cat n x) v → length v.cells ≡ length (carriers cat n)
+pub carried_long : (cat : Catalogue) (n : ℕ) (x : Delta) (v : RowVersion) → Contains (carried_versions cat n x) v → length v.cells ≡ length (carriers cat n)
 carried_long cat n x v h = by_table (table_of x n) h
   where
     by_table : (o : Option TableDelta) → Contains (option_map_or (λ t. coerce_all t.layout (carriers cat n) (versions_in t)) o []) v → length v.cells ≡ length (carriers cat n)
@@ -273,7 +273,7 @@ job_grows : (d : Durable) (wide : Catalogue) (j : Job) → StoreGrew d wide → 
 job_grows d wide j g h = (
   all_map (StandsIn d.catalogue d j) (StandsIn wide d j) (zip d.parts (ranges_of d)) (λ x s l. let k = s l in
       (k.0, (λ m. all_map (RestAt d.catalogue d j x.1) (RestAt wide d j x.1) x.0.ids (λ id y. elim y [ inl i ↦ inl i | inr f ↦ inr (λ table. late_grows d wide j.minimum id x.1 table g (f table)) ]) (k.1 m)))) h.0,
-  record { range = h.1.range; catalogue = became_trans j.catalogue d.catalogue wide h.1.catalogue g.grew.became; lawful = h.1.lawful; inputs = h.1.inputs; minimum = h.1.minimum; taken = h.1.taken },
+  record { range = h.1.range; shelved = h.1.shelved; catalogue = became_trans j.catalogue d.catalogue wide h.1.catalogue g.grew.became; lawful = h.1.lawful; inputs = h.1.inputs; minimum = h.1.minimum; taken = h.1.taken },
 )
 
 -- ---- a session under another catalogue
@@ -317,7 +317,7 @@ read_is cat wide (Ok v) h is = let a = added_is cat v wide (schema_fault cat v) 
 read_is cat wide (Err e) h is = cc
 
 pub schema_keeps : (t : List ℕ) → KeepsDoing (do_schema t)
-schema_keeps t feed fs s s' a b good e d =
+schema_keeps t feed fs s s' a good e d =
     let u = unrefused s (do_schema t) e in
     let r = catalogue_grows feed fs s d.0 good (read_is (cat_of s) d.0 (version_of_text t) d.1 good.lawful.manifest.catalogue) u.unworn in
     (r.0, subst (λ (x : State). IsGood feed x r.0) (sym d.3) r.1)
@@ -352,7 +352,7 @@ retires cat name v x is e f g h =
         (ap (λ (z : Table). option_map_or (λ r. r.live) (registered z v) false) d ∙ live_version_at (registered x v) i j) (ap (λ (z : Table). v == length z.versions) d ∙ l)
 
 pub retire_keeps : (t : List ℕ) (v : ℕ) → KeepsDoing (do_retire t v)
-retire_keeps t v feed fs s s' a b good e d =
+retire_keeps t v feed fs s s' a good e d =
     let u = unrefused s (do_retire t v) e in
     let is = good.lawful.manifest.catalogue in
     let last : when (v == length d.0.versions) (is_last_version v) ≡ None = ap (λ (o : Option Table). option_and_then (λ x. when (v == length x.versions) (is_last_version v)) o) (sym d.1) ∙ u.latest in

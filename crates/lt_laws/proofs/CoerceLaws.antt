@@ -1,10 +1,10 @@
 -- Cells from one layout to another: by way of wide enough carriers they are as at once, and what they make of rows goes along.
-use Rattle.std.proofs.Common.{Bool, List, [], ap, ap₂, arith, cond, eq-eqb, eqb-true, false, inl, inr, length, refl, subst, suc, sym, true, zero, ℕ, ◌∙◌, ◌∷◌, ◌≡◌, ◌≤◌}
+use Rattle.std.proofs.Common.{Bool, List, [], ap, ap₂, arith, cond, eq-eqb, eqb-true, false, length, refl, subst, suc, sym, true, ℕ, ◌∙◌, ◌∷◌, ◌≡◌, ◌≤◌}
 use Rattle.std.specs.Prelude.{Contains, IsTrue, None, Option, Some, find, if◌then◌else◌, map, not, option_map, ⊤, ◌&&◌, ◌==◌, ◌||◌}
-use Rattle.std.specs.List.{AllByRecursion, list_any}
+use Rattle.std.specs.List.{AllByRecursion}
 use Rattle.std.specs.Option.{option_map_or}
 use Rattle.std.specs.Str.{is_utf8}
-use Rattle.std.proofs.lemmas.Bool.{and_from, and_parts, false≢true, or_cases}
+use Rattle.std.proofs.lemmas.Bool.{and_from, and_parts, false≢true}
 use Rattle.lt_model.specs.declared.Rank.{Rank}
 use Rattle.lt_model.specs.Value.{Value, bool_value, bytes_value, fits_32, int_value, null_value, struct_value, text_value}
 use Rattle.lt_model.specs.Kind.{Kind, has_shape, plain, rank_number}
@@ -16,9 +16,8 @@ use Rattle.lt_model.specs.declared.Op.TheVariants as ops
 use Rattle.lt_laws.proofs.CarrierLaws.{prim_up, shape_within}
 use Rattle.lt_laws.proofs.ConversionLemmas.{at_rank-null, fits_wider, bit_fits, bytes_shape, int_shape, step_bool, text_shape, through_rank}
 use Rattle.lt_laws.proofs.FlattenLemmas.{cell_back}
-use Rattle.lt_laws.proofs.JobLaws.{from_map}
 use Rattle.lt_laws.proofs.LeafLaws.{AreColumns, Mark, found_leaf, leaf_at, leaf_found, leaf_in, leaf_in_layout, leaf_is}
-use Rattle.lt_laws.proofs.ListFacts.{find_held}
+use Rattle.lt_laws.proofs.ListFacts.{any_held, find_held, from_map, in_map}
 use Rattle.lt_laws.proofs.ScanLaws.{any_of}
 use Rattle.lt_laws.proofs.SoundLaws.{not-true}
 use Rattle.lt_model.specs.declared.Rank.TheVariants as rank
@@ -37,7 +36,7 @@ pub unset_to : (a b : Rank) → cell_to a b unset ≡ unset
 unfolding cell_to
 unset_to a b = refl
 
-null_to : (a b : Rank) → cell_to a b null_cell ≡ null_cell
+pub null_to : (a b : Rank) → cell_to a b null_cell ≡ null_cell
 unfolding cell_to
 null_to a b = refl
 
@@ -84,7 +83,7 @@ is_the_unset (int_cell z) e = absurd (false≢true e)
 is_the_unset (bytes_cell t) e = absurd (false≢true e)
 
 -- a value of one rank, at another
-shape_at : (a c : Rank) (v : Value) → IsTrue (has_shape v (plain a)) → IsTrue (has_shape (at_rank c v) (plain c))
+pub shape_at : (a c : Rank) (v : Value) → IsTrue (has_shape v (plain a)) → IsTrue (has_shape (at_rank c v) (plain c))
 shape_at a c null_value h = subst (λ (v : Value). IsTrue (has_shape v (plain c))) (sym (at_rank-null c)) refl
 shape_at a c (bool_value b) h = subst (λ (v : Value). IsTrue (has_shape v (plain c))) (step_bool b c) (int_shape c _ (bit_fits b))
 shape_at rank.Int32 c (int_value z) h = int_shape c z (fits_wider z h)
@@ -152,13 +151,6 @@ IsWideFor cs l = (m : Mark) × (leaf_in cs l.column l.path ≡ Some m) × (rank_
 abbrev pub IsMarkedAs : List (ℕ × Kind) → Leaf → Type 0
 IsMarkedAs cs b = (m : Mark) → leaf_in cs b.column b.path ≡ Some m → (m.1 ≡ b.presence) × (b.presence ≡ true → (b.rank ≡ rank.Bool) × (m.0 ≡ rank.Bool))
 
-pub any_held : {A : Type 0} (test : A → Bool) (xs : List A) → list_any test xs ≡ true → (x : A) × Contains xs x × (test x ≡ true)
-any_held test [] h = absurd (false≢true h)
-any_held test (x ∷ xs) h = elim (or_cases (test x) (list_any test xs) h) [
-  | inl e ↦ (x, (0, omega arith, refl), e)
-  | inr e ↦ (let r = any_held test xs e in (r.0, (let i = r.1 in (suc i.0, omega (arith, i.1), i.2)), r.2))
-]
-
 pub both_ways : (a b : Bool) → (a ≡ true → b ≡ true) → (b ≡ true → a ≡ true) → a ≡ b
 both_ways true true f g = refl
 both_ways true false f g = sym (f refl)
@@ -169,7 +161,7 @@ abbrev pub sets_at : ℕ → Leaf × Cell → Bool
 sets_at n c = (c.0.column == n) && not (is_unset c.1)
 
 -- a leaf's cell is set where its column is
-for_set_by : (xs : Cells) (l : Leaf) (o : Option (Leaf × Cell)) → found_for l xs ≡ o → AreFit xs → (a : Leaf × Cell) → Contains xs a → a.0.column ≡ l.column → is_unset a.1 ≡ false → is_unset (option_map_or (λ c. cell_to c.0.rank l.rank c.1) o (lacking l xs)) ≡ false
+pub for_set_by : (xs : Cells) (l : Leaf) (o : Option (Leaf × Cell)) → found_for l xs ≡ o → AreFit xs → (a : Leaf × Cell) → Contains xs a → a.0.column ≡ l.column → is_unset a.1 ≡ false → is_unset (option_map_or (λ c. cell_to c.0.rank l.rank c.1) o (lacking l xs)) ≡ false
 for_set_by xs l (Some c) e f a h k s =
     let g = find_held (λ c. same_leaf c.0 l) xs c e in
     to_set c.0.rank l.rank c.1 ∙ f.agree c a g.0 h ((leaf_is c.0 l g.1).0 ∙ sym k) ∙ s
@@ -181,7 +173,7 @@ for_set_by xs l None e f a h k s =
     lacked true = refl
     lacked false = refl
 
-set_back_by : (xs : Cells) (l : Leaf) (o : Option (Leaf × Cell)) → found_for l xs ≡ o → is_unset (option_map_or (λ c. cell_to c.0.rank l.rank c.1) o (lacking l xs)) ≡ false → sets l.column xs ≡ true
+pub set_back_by : (xs : Cells) (l : Leaf) (o : Option (Leaf × Cell)) → found_for l xs ≡ o → is_unset (option_map_or (λ c. cell_to c.0.rank l.rank c.1) o (lacking l xs)) ≡ false → sets l.column xs ≡ true
 set_back_by xs l (Some c) e s =
     let g = find_held (λ c. same_leaf c.0 l) xs c e in
     any_of (sets_at l.column) xs c g.0 (and_from _ _ (eq-eqb c.0.column l.column (leaf_is c.0 l g.1).0) (ap not (sym (to_set c.0.rank l.rank c.1) ∙ s)))
@@ -190,11 +182,6 @@ set_back_by xs l None e s = by_sets (sets l.column xs) refl
     by_sets : (b : Bool) → sets l.column xs ≡ b → sets l.column xs ≡ true
     by_sets true d = d
     by_sets false d = absurd (false≢true (sym s ∙ ap (λ (b : Bool). is_unset (cond b (if l.presence then bool_cell false else null_cell) unset)) d))
-
-pub in_map : {A B : Type 0} (f : A → B) (xs : List A) (x : A) → Contains xs x → Contains (map f xs) (f x)
-in_map f [] x h = absurd (omega (arith, h.1))
-in_map f (y ∷ xs) x (zero, l, e) = (zero, omega arith, ap f e)
-in_map f (y ∷ xs) x (suc k, l, e) = let r = in_map f xs x (k, omega (arith, l), e) in (suc r.0, omega (arith, r.1), r.2)
 
 -- under wide enough columns the same columns are set
 sets_same : (xs : Cells) (cs : List (ℕ × Kind)) (n : ℕ) → AreFit xs → ((a : Leaf × Cell) → Contains xs a → a.0.column ≡ n → IsWideFor cs a.0) → sets n (beside (cell_for xs) (layout_of cs)) ≡ sets n xs
@@ -285,7 +272,7 @@ coerce_twice from to cs cells f cols served =
 
 -- ---- what cells make of rows goes along
 
-abbrev over : Cell → Cell → Cell
+abbrev pub over : Cell → Cell → Cell
 over a b = if is_unset b then a else b
 
 -- of two lists of cells under one layout, and the second laid over the first
@@ -364,7 +351,7 @@ over_for b ls xs ys e f = by_laid (found_for b (with_cells ls xs)) (found_for b 
         ∙ over_to l.rank b.rank u v
         ∙ sym (ap₂ (λ (u v : Option (Leaf × Cell)). over (option_map_or (λ (c : Leaf × Cell). cell_to c.0.rank b.rank c.1) u (lacking b (with_cells ls xs))) (option_map_or (λ (c : Leaf × Cell). cell_to c.0.rank b.rank c.1) v (lacking b (with_cells ls ys)))) x y)
 
-overlay_maps : (f g : Leaf → Cell) (ls : List Leaf) → map (λ b. over (f b) (g b)) ls ≡ overlay (map f ls) (map g ls)
+pub overlay_maps : (f g : Leaf → Cell) (ls : List Leaf) → map (λ b. over (f b) (g b)) ls ≡ overlay (map f ls) (map g ls)
 overlay_maps f g [] = refl
 overlay_maps f g (l ∷ ls) = ap (λ (r : List Cell). over (f l) (g l) ∷ r) (overlay_maps f g ls)
 
@@ -377,7 +364,7 @@ unfolding coerce
 coerce_overlay from to xs ys e f = map_alike (cell_for (with_cells from (overlay xs ys))) (λ b. over (cell_for (with_cells from xs) b) (cell_for (with_cells from ys) b)) to (λ b. over_for b from xs ys e f)
     ∙ overlay_maps (cell_for (with_cells from xs)) (cell_for (with_cells from ys)) to
 
-overlay_length : (xs ys : List Cell) → length xs ≡ length ys → length (overlay xs ys) ≡ length xs
+pub overlay_length : (xs ys : List Cell) → length xs ≡ length ys → length (overlay xs ys) ≡ length xs
 overlay_length [] ys e = sym e
 overlay_length (x ∷ xs) [] e = refl
 overlay_length (x ∷ xs) (y ∷ ys) e = ap suc (overlay_length xs ys (omega (arith, e)))

@@ -2,11 +2,12 @@
 use Rattle.std.proofs.Common.{drop, get_or, List, [], ap, append-nil, append_assoc, ap₂, arith, length, ltb-false, refl, subst, suc, sym, true, zero, ℕ, ◌++◌, ◌+◌, ◌<◌, ◌∙◌, ◌∷◌, ◌≡◌, ◌≤◌}
 use Rattle.std.specs.Prelude.{IsTrue, None, flat_map, fold, is_none, nat_lt, ⊤, ◌≢◌}
 use Rattle.std.specs.List.{AllByRecursion}
-use Rattle.std.proofs.lemmas.Bool.{and_from}
+use Rattle.std.proofs.lemmas.Bool.{and_from, false≢true}
 use Rattle.std.proofs.lemmas.List.{append_cancel_left, length-append}
 use Rattle.lt_model.specs.Schema.{Became, Catalogue, IsCatalogue, when}
 use Rattle.lt_model.specs.Log.{Change, Header, IsPrefixFree, Item, bytes16, header_body, magic, optional, origin_at, u32, batch_item, change_item, changes_in, changes_of, checkpoint_item, close_item, header_item, is_item, spelled}
 use Rattle.lt_model.specs.Fair.{AllSuccessorsStand, AreSuccessors, Feed, Grows, HasHeader, IsPrefix, SuccessorsStand, after_close, backward, breaks, checkpoint_of, fair_after, is_closed, is_fair, item_fault, last_checkpoint, point_after, point_of, stream_bytes}
+use Rattle.lt_model.specs.Laws.{GrowsLaws}
 use Rattle.lt_model.specs.Sound.{Fronts, FrontsFrom}
 use Rattle.lt_model.specs.declared.Format.{Format}
 use Rattle.lt_model.specs.declared.Format.TheVariants as format
@@ -87,6 +88,17 @@ front_stays free feed more cat h is js grows p q = front_begins free feed more c
 pub grows_itself : (feed : Feed) → Grows feed feed
 grows_itself [] = tt
 grows_itself (b ∷ bs) = (([], sym (append-nil b)), grows_itself bs)
+
+pub grows_then : (a b c : Feed) → Grows a b → Grows b c → Grows a c
+grows_then [] [] [] h k = tt
+grows_then [] [] (z ∷ c) h k = k
+grows_then [] (y ∷ b) c h k = absurd (false≢true h)
+grows_then (x ∷ a) [] c h k = absurd h
+grows_then (x ∷ a) (y ∷ b) [] h k = absurd k
+grows_then (x ∷ a) (y ∷ b) (z ∷ c) h k = ((h.0.0 ++ k.0.0, k.0.1 ∙ ap (λ s. s ++ k.0.0) h.0.1 ∙ append_assoc x h.0.0 k.0.0), grows_then a b c h.1 k.1)
+
+pub grows_laws : GrowsLaws
+grows_laws = record { itself = grows_itself; through = grows_then }
 
 fronts_both : (is js more rest : List Item) → js ≡ is ++ more → is ≡ js ++ rest → is ≡ js
 fronts_both is js [] rest e d = sym (append-nil is) ∙ sym e

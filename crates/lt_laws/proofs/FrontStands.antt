@@ -1,6 +1,6 @@
 -- Every stream with a header has a front: the items that stand whole behind it, up to the first that breaks a rule or does not stand.
 use Rattle.std.proofs.Common.{Bool, List, [], ap, append-nil, append_assoc, arith, false, length, refl, subst, suc, sym, true, zero, ℕ, ◌+◌, ◌++◌, ◌<◌, ◌∙◌, ◌∷◌, ◌≡◌}
-use Rattle.std.specs.Prelude.{IsTrue, None, Option, Some, flat_map, is_none, map, ◌&&◌, ⊤}
+use Rattle.std.specs.Prelude.{IsTrue, None, Option, Some, flat_map, is_none, map, ◌&&◌}
 use Rattle.std.specs.List.{AllByRecursion}
 use Rattle.std.proofs.lemmas.Bool.{and_from, and_parts}
 use Rattle.std.proofs.lemmas.List.{length-append}
@@ -17,7 +17,7 @@ use Rattle.lt_laws.proofs.FrontLaws.{Ends, header_stays}
 use Rattle.lt_laws.proofs.PointLaws.{itself, none, same}
 use Rattle.lt_laws.proofs.CatalogueLaws.{fair_stays}
 use Rattle.lt_laws.proofs.FrontLaws.{front_stays_longer, front_unique}
-use Rattle.lt_model.specs.Laws.{FrontLaws}
+use Rattle.lt_model.specs.Laws.{FrontLaws, HeadersFrom}
 use Rattle.lt_laws.proofs.SoundLaws.{grows-same, sound_grows_where}
 use Rattle.lt_model.specs.declared.Format.TheVariants as format
 
@@ -123,11 +123,6 @@ front_stands feed cat h s r has = let f = front_from feed cat h r (length has.re
 
 -- ---- the fronts of a feed
 
--- the streams' headers stand, and are of a format that is read
-abbrev pub HeadersFrom : Feed → ℕ → List Header → Type 0
-HeadersFrom feed n [] = ⊤
-HeadersFrom feed n (h ∷ hs) = HasHeader feed n h × IsTrue (is_read h.format) × HeadersFrom feed (n + 1) hs
-
 fronts_from : (feed : Feed) (cat : Catalogue) (n : ℕ) (hs : List Header) → HeadersFrom feed n hs
     → (fs : List (Header × List Item)) × (map (λ f. f.0) fs ≡ hs) × FrontsFrom feed cat n fs
 fronts_from feed cat n [] a = ([], refl, tt)
@@ -169,7 +164,7 @@ one_stream bytes cat h has r a = let one = front_stands (bytes ∷ []) cat h 0 r
 
 -- an image that is sound for a feed is sound for a longer one
 pub sound_grows : SoundGrows
-sound_grows image feed more g short s = let f = fronts_grow feed more s.durable.catalogue s.durable.catalogue s.fronts g s.are_fronts in sound_grows_where image feed more g s f.0 f.2
+sound_grows image feed more g s = let f = fronts_grow feed more s.durable.catalogue s.durable.catalogue s.fronts g s.are_fronts in sound_grows_where image feed more g s f.0 f.2
 
 -- ---- all of these
 
@@ -179,6 +174,6 @@ front_laws = record {
   fair = fair_stays;
   grows = front_stays_longer frames_prefix_free;
   stands = front_stands;
+  all = fronts_stand;
   stand = fronts_grow;
-  only = one_stream;
 }

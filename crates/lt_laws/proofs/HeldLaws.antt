@@ -23,7 +23,7 @@ rising_above low (d ∷ cs) r c (zero, l, e) = let p = and_parts (nat_lt low d.t
 rising_above low (d ∷ cs) r c (suc k, l, e) = let p = and_parts (nat_lt low d.ts) (rises_above d.ts (map (λ c. c.ts) cs)) r in
     let h : d.ts < c.ts = rising_above d.ts cs p.1 c (k, omega (arith, l), e) in let m : low < d.ts = ltb-true low d.ts p.0 in omega (arith, h, m)
 
-rises_tail : (n : ℕ) (ns : List ℕ) → IsTrue (rises_above n ns) → IsTrue (rises_strictly ns)
+pub rises_tail : (n : ℕ) (ns : List ℕ) → IsTrue (rises_above n ns) → IsTrue (rises_strictly ns)
 rises_tail n [] r = refl
 rises_tail n (m ∷ ms) r = (and_parts (nat_lt n m) (rises_above m ms) r).1
 

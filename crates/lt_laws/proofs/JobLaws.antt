@@ -1,6 +1,6 @@
 -- A job that begins or goes on keeps a good session.
 use Rattle.std.proofs.Common.{Bool, List, [], ap, arith, cond, eq-eqb, false, inl, inr, leb-false, length, refl, subst, suc, sym, true, zero, ℕ, ◌+◌, ◌<◌, ◌∙◌, ◌∷◌, ◌≡◌, ◌≤◌}
-use Rattle.std.specs.Prelude.{Contains, IfSome, IsTrue, None, Option, Some, filter, find, flat_map, fold, map, min, nat_le, not, option_and_then, option_map, slice_get, ◌==◌, ◌⊎◌}
+use Rattle.std.specs.Prelude.{Contains, IfSome, IsTrue, None, Option, Some, filter, find, fold, is_some, map, min, nat_le, not, option_and_then, option_map, slice_get, ◌==◌, ◌⊎◌}
 use Rattle.std.specs.List.{AllByRecursion, cons_option, list_any}
 use Rattle.std.specs.Option.{option_map_or}
 use Rattle.std.proofs.lemmas.Bool.{and_from, false≢true, not-false}
@@ -12,7 +12,8 @@ use Rattle.lt_model.specs.Machine.{Job, State, is_major_mode, unknown_in, delta_
 use Rattle.lt_model.specs.Reply.{no_such_delta}
 use Rattle.lt_model.specs.Script.{Mode, do_job_begin, do_job_step, major, minor}
 use Rattle.lt_model.specs.Sound.{IsGood, JobBegan, JobStands, ListsAll}
-use Rattle.lt_laws.proofs.ListFacts.{all_at, all_from, all_map, contains_front, contains_rest, find_held, find_none, from_filter_map, none_mapped}
+use Rattle.lt_laws.proofs.DurableFacts.{IsKnown, inputs_known}
+use Rattle.lt_laws.proofs.ListFacts.{all_at, all_from, all_map, find_held, find_none, flat_held, from_filter_map, from_map, none_mapped}
 use Rattle.lt_laws.proofs.ReadLaws.{or_left, or_right}
 use Rattle.lt_laws.proofs.RangeLaws.{IsOutOf, IsSole, tile_rises, tile_sole}
 use Rattle.lt_laws.proofs.ScanLemmas.{from-filter, in-filter}
@@ -54,7 +55,7 @@ chosen_apart (suc n) (q ∷ ps) (s ∷ rs) p r f l e d = (
   chosen_apart n ps rs p r (λ key. (f key).1) (omega (arith, l)) e d,
 )
 
-as_many : (ps : List Part) → length ps ≡ length (part_ranges ps)
+pub as_many : (ps : List Part) → length ps ≡ length (part_ranges ps)
 as_many [] = refl
 as_many (p ∷ ps) = ap suc (as_many ps)
 
@@ -77,10 +78,10 @@ both_each P Q R (p ∷ ps) (r ∷ rs) f a b = (f p r a.0 b.0, both_each P Q R ps
 
 -- ---- the inputs
 
-abbrev lists_id : List ℕ → ℕ → Bool
+abbrev pub lists_id : List ℕ → ℕ → Bool
 lists_id ids i = list_any (λ x. x == i) ids
 
-any_from : (ids : List ℕ) (i : ℕ) → Contains ids i → IsTrue (lists_id ids i)
+pub any_from : (ids : List ℕ) (i : ℕ) → Contains ids i → IsTrue (lists_id ids i)
 any_from [] i h = absurd (omega (arith, h.1))
 any_from (x ∷ ids) i (zero, l, e) = or_left (x == i) (lists_id ids i) (eq-eqb x i e)
 any_from (x ∷ ids) i (suc k, l, e) = or_right (x == i) (lists_id ids i) (any_from ids i (k, omega (arith, l), e))
@@ -128,16 +129,6 @@ puts_from (v ∷ vs) ws x h = elim (put_from v (put_versions vs ws) x h) [
   | inr i ↦ elim (puts_from vs ws x i) [ inl (k, l, e) ↦ inl (suc k, omega (arith, l), e) | inr j ↦ inr j ]
 ]
 
-pub flat_held : {A B : Type 0} (f : A → List B) (xs : List A) (x : A) (y : B) → Contains xs x → Contains (f x) y → Contains (flat_map f xs) y
-flat_held f [] x y h i = absurd (omega (arith, h.1))
-flat_held f (z ∷ xs) x y (zero, l, e) i = contains_front (f z) (flat_map f xs) y (subst (λ u. Contains (f u) y) (sym e) i)
-flat_held f (z ∷ xs) x y (suc k, l, e) i = contains_rest (f z) (flat_map f xs) y (flat_held f xs x y (k, omega (arith, l), e) i)
-
-pub from_map : {A B : Type 0} (f : A → B) (xs : List A) (y : B) → Contains (map f xs) y → (x : A) × Contains xs x × (f x ≡ y)
-from_map f [] y h = absurd (omega (arith, h.1))
-from_map f (x ∷ xs) y (zero, l, e) = (x, (zero, omega arith, refl), e)
-from_map f (x ∷ xs) y (suc k, l, e) = let r = from_map f xs y (k, omega (arith, l), e) in (r.0, (let h = r.1 in (suc h.0, omega (arith, h.1), h.2)), r.2)
-
 carried_late : (cat : Catalogue) (table : ℕ) (x : Delta) (o : Option TableDelta) (v : RowVersion) → find (λ t. t.table == table) x.tables ≡ o → Contains (option_map_or (λ t. coerce_all t.layout (carriers cat table) (versions_in t)) o []) v → delta_least x ≤ v.ts
 carried_late cat table x None v e h = absurd (omega (arith, h.1))
 carried_late cat table x (Some t) v e h =
@@ -167,7 +158,7 @@ major_rest d p r = all_from (λ id. IsTrue (list_any (λ i. i == id) (inputs_of 
 
 -- ---- the commands
 
-inputs_listed : (s : State) (n : ℕ) (p : Part) (mode : Mode) → unknown_in p.ids mode ≡ None → ListsAll p.ids (inputs_of s.durable p mode)
+pub inputs_listed : (s : State) (n : ℕ) (p : Part) (mode : Mode) → unknown_in p.ids mode ≡ None → ListsAll p.ids (inputs_of s.durable p mode)
 inputs_listed s n p (minor named) e = named_listed p.ids named e
 inputs_listed s n p major e = filtered_listed (λ id. option_map_or (λ x. nat_le (delta_least x) s.durable.minimum) (delta_with s.durable.shelf id) false) p.ids
 
@@ -176,7 +167,7 @@ rest_stands : (d : Durable) (p : Part) (r : Range) (mode : Mode) → IsTrue (is_
 rest_stands d p r (minor named) m = absurd (false≢true m)
 rest_stands d p r major m = major_rest d p r
 
-job_begun_stands : (s : State) (n : ℕ) (p : Part) (r : Range) (mode : Mode) → slice_get s.durable.parts n ≡ Some p → slice_get (ranges_of s.durable) n ≡ Some r → unknown_in p.ids mode ≡ None → IsLawfulPart s.durable
+pub job_begun_stands : (s : State) (n : ℕ) (p : Part) (r : Range) (mode : Mode) → slice_get s.durable.parts n ≡ Some p → slice_get (ranges_of s.durable) n ≡ Some r → unknown_in p.ids mode ≡ None → IsLawfulPart s.durable
     → JobStands s.durable (job_for s.durable p r mode) × JobBegan s.durable (job_for s.durable p r mode)
 job_begun_stands s n p r mode e f known lawful =
     let d = s.durable in
@@ -198,6 +189,7 @@ job_begun_stands s n p r mode e f known lawful =
           ]) apart lows),
       record {
         range = each_zipped (λ q t. IsWholeIn j t) ps rs (each_as (IsItOr p r) (λ q t. IsWholeIn j t) ps rs (λ q t a m. elim a [ inl k ↦ subst (λ (x : Range). lies_in x r ≡ true) (sym k.1) (lies_itself r) | inr f ↦ absurd (f m) ]) apart);
+        shelved = all_map (IsKnown d) (λ i. IsTrue (is_some (delta_with d.shelf i))) j.inputs (λ i k. k.0) (inputs_known d n p j.inputs lawful e listed);
         catalogue = as_it_was;
         lawful = lawful.manifest.catalogue;
         inputs = all_from (AreLawfulTables d.catalogue) (deltas_of d.shelf j.inputs) (λ x h.
@@ -207,14 +199,14 @@ job_begun_stands s n p r mode e f known lawful =
       },
     )
 
-part_job_is : (d : Durable) (n : ℕ) (mode : Mode) (o : Option Part) (q : Option Range) (j : Job) → slice_get d.parts n ≡ o → slice_get (ranges_of d) n ≡ q → option_and_then (λ p. option_map (λ r. job_for d p r mode) q) o ≡ Some j
+pub part_job_is : (d : Durable) (n : ℕ) (mode : Mode) (o : Option Part) (q : Option Range) (j : Job) → slice_get d.parts n ≡ o → slice_get (ranges_of d) n ≡ q → option_and_then (λ p. option_map (λ r. job_for d p r mode) q) o ≡ Some j
     → (p : Part) × (r : Range) × (slice_get d.parts n ≡ Some p) × (slice_get (ranges_of d) n ≡ Some r) × (job_for d p r mode ≡ j)
 part_job_is d n mode None q j e f g = cc
 part_job_is d n mode (Some p) None j e f g = cc
 part_job_is d n mode (Some p) (Some r) j e f g = (p, r, e, f, cc)
 
 pub job_begin_keeps : (n : ℕ) (mode : Mode) → KeepsDoing (do_job_begin n mode)
-job_begin_keeps n mode feed fs s s' a b good e d =
+job_begin_keeps n mode feed fs s s' a good e d =
     let u = unrefused s (do_job_begin n mode) e in
     let k = part_job_is s.durable n mode (slice_get s.durable.parts n) (slice_get (ranges_of s.durable) n) d.0 refl refl d.1 in
     let known : unknown_in k.0.ids mode ≡ None = none_mapped no_such_delta (unknown_in k.0.ids mode) (ap (λ (o : Option Part). option_map no_such_delta (option_and_then (λ p. unknown_in p.ids mode) o)) (sym k.2) ∙ u.delta) in (
@@ -240,6 +232,7 @@ went_on s n j h = (
   h.0,
   record {
     range = h.1.range;
+    shelved = h.1.shelved;
     catalogue = h.1.catalogue;
     lawful = h.1.lawful;
     inputs = h.1.inputs;
@@ -249,7 +242,7 @@ went_on s n j h = (
 )
 
 pub job_step_keeps : (n : ℕ) → KeepsDoing (do_job_step n)
-job_step_keeps n feed fs s s' a b good e d = (
+job_step_keeps n feed fs s s' a good e d = (
   fs,
   subst (λ (x : State). IsGood feed x fs) (sym d.3) (record {
     short = good.short;

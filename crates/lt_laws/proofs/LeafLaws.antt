@@ -9,8 +9,7 @@ use Rattle.lt_model.specs.Kind.{FieldKinds, Kind, enumeration, field_kind, kind_
 use Rattle.lt_model.specs.Layout.{Leaf, field_leaves, layout_of, leaves, same_leaf, same_path}
 use Rattle.lt_laws.proofs.CarrierLaws.{TailOf, tail_here, tail_next}
 use Rattle.lt_laws.proofs.ConversionLemmas.{are_rising, is_rising}
-use Rattle.lt_laws.proofs.JobLaws.{flat_held}
-use Rattle.lt_laws.proofs.ListFacts.{all_append, all_at, all_both, all_map, contains_front, contains_rest, find_held, held_is_found}
+use Rattle.lt_laws.proofs.ListFacts.{all_append, all_at, all_both, all_map, contains_front, contains_rest, find_held, flat_held, held_is_found}
 use Rattle.lt_laws.proofs.ScanLemmas.{kind_for}
 use Rattle.lt_model.specs.declared.Rank.TheVariants as rank
 

@@ -1,30 +1,11 @@
 -- Facts about lists that several proofs need: what holds of each element, and what is found.
+pub use Rattle.lt_codecs.proofs.ListFacts.{all_append, all_both, all_front, all_map, all_rest, any_none, find_none, none_mapped}
 use Rattle.std.proofs.Common.{Bool, List, [], ap, arith, cond, false, inl, inr, refl, subst, suc, sym, true, zero, ◌++◌, ◌∙◌, ◌∷◌, ◌≡◌}
-use Rattle.std.specs.Prelude.{Contains, None, Option, Some, filter, filter_map, find, option_map, ◌⊎◌}
+use Rattle.std.specs.Prelude.{Contains, None, Option, Some, filter, filter_map, find, flat_map, map, option_map, ◌||◌, ◌⊎◌}
 use Rattle.std.specs.List.{AllByRecursion, cons_option, list_any}
-use Rattle.std.proofs.lemmas.Bool.{false≢true, or_parts}
+use Rattle.std.proofs.lemmas.Bool.{false≢true, or_cases}
 
 -- ---- what holds of each
-
-pub all_append : {A : Type 0} (P : A → Type 0) (xs ys : List A) → AllByRecursion P xs → AllByRecursion P ys → AllByRecursion P (xs ++ ys)
-all_append P [] ys a b = b
-all_append P (x ∷ xs) ys a b = (a.0, all_append P xs ys a.1 b)
-
-pub all_front : {A : Type 0} (P : A → Type 0) (xs ys : List A) → AllByRecursion P (xs ++ ys) → AllByRecursion P xs
-all_front P [] ys a = tt
-all_front P (x ∷ xs) ys a = (a.0, all_front P xs ys a.1)
-
-pub all_rest : {A : Type 0} (P : A → Type 0) (xs ys : List A) → AllByRecursion P (xs ++ ys) → AllByRecursion P ys
-all_rest P [] ys a = a
-all_rest P (x ∷ xs) ys a = all_rest P xs ys a.1
-
-pub all_map : {A : Type 0} (P Q : A → Type 0) (xs : List A) → ((x : A) → P x → Q x) → AllByRecursion P xs → AllByRecursion Q xs
-all_map P Q [] f a = tt
-all_map P Q (x ∷ xs) f a = (f x a.0, all_map P Q xs f a.1)
-
-pub all_both : {A : Type 0} (P Q R : A → Type 0) (xs : List A) → ((x : A) → P x → Q x → R x) → AllByRecursion P xs → AllByRecursion Q xs → AllByRecursion R xs
-all_both P Q R [] f a b = tt
-all_both P Q R (x ∷ xs) f a b = (f x a.0 b.0, all_both P Q R xs f a.1 b.1)
 
 pub all_at : {A : Type 0} (P : A → Type 0) (xs : List A) (x : A) → AllByRecursion P xs → Contains xs x → P x
 all_at P [] x a (k, l, e) = absurd (omega (arith, l))
@@ -47,6 +28,15 @@ pub contains_rest : {A : Type 0} (xs ys : List A) (x : A) → Contains ys x → 
 contains_rest [] ys x k = k
 contains_rest (y ∷ xs) ys x k = contains_cons y (xs ++ ys) x (contains_rest xs ys x k)
 
+pub held_either : {A : Type 0} (xs ys : List A) (x : A) → Contains (xs ++ ys) x → Contains xs x ⊎ Contains ys x
+held_either [] ys x h = inr h
+held_either (y ∷ xs) ys x (zero, l, e) = inl (zero, omega arith, e)
+held_either (y ∷ xs) ys x (suc k, l, e) = elim (held_either xs ys x (k, omega (arith, l), e)) [ inl i ↦ inl (contains_cons y xs x i) | inr i ↦ inr i ]
+
+pub held_one : {A : Type 0} (x y : A) → Contains (x ∷ []) y → x ≡ y
+held_one x y (zero, l, e) = e
+held_one x y (suc k, l, e) = absurd (omega (arith, l))
+
 pub all_contained : {A : Type 0} (xs : List A) → AllByRecursion (Contains xs) xs
 all_contained xs = all_from (Contains xs) xs (λ x h. h)
 
@@ -57,6 +47,18 @@ filter_by P x xs false p a = a
 pub all_filter : {A : Type 0} (P : A → Type 0) (test : A → Bool) (xs : List A) → AllByRecursion P xs → AllByRecursion P (filter test xs)
 all_filter P test [] a = tt
 all_filter P test (x ∷ xs) a = filter_by P x (filter test xs) (test x) a.0 (all_filter P test xs a.1)
+
+pub all_flat : {A : Type 0} (P : A → Type 0) (xss : List (List A)) → AllByRecursion (AllByRecursion P) xss → AllByRecursion P (flat_map (λ xs. xs) xss)
+all_flat P [] a = tt
+all_flat P (xs ∷ xss) a = all_append P xs (flat_map (λ xs. xs) xss) a.0 (all_flat P xss a.1)
+
+pub all_to_map : {A B : Type 0} (P : B → Type 0) (f : A → B) (xs : List A) → AllByRecursion (λ x. P (f x)) xs → AllByRecursion P (map f xs)
+all_to_map P f [] a = tt
+all_to_map P f (x ∷ xs) a = (a.0, all_to_map P f xs a.1)
+
+pub all_of_map : {A B : Type 0} (P : B → Type 0) (f : A → B) (xs : List A) → AllByRecursion P (map f xs) → AllByRecursion (λ x. P (f x)) xs
+all_of_map P f [] a = tt
+all_of_map P f (x ∷ xs) a = (a.0, all_of_map P f xs a.1)
 
 -- ---- what is found
 
@@ -69,22 +71,9 @@ pub find_all : {A : Type 0} (P : A → Type 0) (test : A → Bool) (xs : List A)
 find_all P test [] y a h = cc
 find_all P test (x ∷ xs) y a h = found_by P test x y (find test xs) (test x) refl a.0 (find_all P test xs y a.1) h
 
-none_by : {A : Type 0} (test : A → Bool) (x : A) (o : Option A) (b : Bool) → test x ≡ b → cond b (Some x) o ≡ None → (test x ≡ false) × (o ≡ None)
-none_by test x o true e h = cc
-none_by test x o false e h = (e, h)
-
--- where nothing is found no element passes
-pub find_none : {A : Type 0} (test : A → Bool) (xs : List A) → find test xs ≡ None → AllByRecursion (λ x. test x ≡ false) xs
-find_none test [] h = tt
-find_none test (x ∷ xs) h = let r = none_by test x (find test xs) (test x) refl h in (r.0, find_none test xs r.1)
-
-pub any_none : {A : Type 0} (test : A → Bool) (xs : List A) → list_any test xs ≡ false → AllByRecursion (λ x. test x ≡ false) xs
-any_none test [] h = tt
-any_none test (x ∷ xs) h = let r = or_parts (test x) (list_any test xs) h in (r.0, any_none test xs r.1)
-
-pub none_mapped : {A B : Type 0} (f : A → B) (o : Option A) → option_map f o ≡ None → o ≡ None
-none_mapped f None e = refl
-none_mapped f (Some x) e = cc
+pub any_mapped : {A B : Type 0} (test : B → Bool) (f : A → B) (xs : List A) → list_any (λ x. test (f x)) xs ≡ list_any test (map f xs)
+any_mapped test f [] = refl
+any_mapped test f (x ∷ xs) = ap (λ (b : Bool). test (f x) || b) (any_mapped test f xs)
 
 given_by : {B : Type 0} (o : Option B) (xs ys : List B) → cons_option o (xs ++ ys) ≡ cons_option o xs ++ ys
 given_by None xs ys = refl
@@ -134,3 +123,25 @@ held_by test xs x None f h e = let d : test x ≡ false = all_at (λ z. test z �
 -- where an element passes one is found
 pub held_is_found : {A : Type 0} (test : A → Bool) (xs : List A) (x : A) → Contains xs x → test x ≡ true → (y : A) × (find test xs ≡ Some y)
 held_is_found test xs x h e = held_by test xs x (find test xs) refl h e
+
+pub flat_held : {A B : Type 0} (f : A → List B) (xs : List A) (x : A) (y : B) → Contains xs x → Contains (f x) y → Contains (flat_map f xs) y
+flat_held f [] x y h i = absurd (omega (arith, h.1))
+flat_held f (z ∷ xs) x y (zero, l, e) i = contains_front (f z) (flat_map f xs) y (subst (λ u. Contains (f u) y) (sym e) i)
+flat_held f (z ∷ xs) x y (suc k, l, e) i = contains_rest (f z) (flat_map f xs) y (flat_held f xs x y (k, omega (arith, l), e) i)
+
+pub from_map : {A B : Type 0} (f : A → B) (xs : List A) (y : B) → Contains (map f xs) y → (x : A) × Contains xs x × (f x ≡ y)
+from_map f [] y h = absurd (omega (arith, h.1))
+from_map f (x ∷ xs) y (zero, l, e) = (x, (zero, omega arith, refl), e)
+from_map f (x ∷ xs) y (suc k, l, e) = let r = from_map f xs y (k, omega (arith, l), e) in (r.0, (let h = r.1 in (suc h.0, omega (arith, h.1), h.2)), r.2)
+
+pub any_held : {A : Type 0} (test : A → Bool) (xs : List A) → list_any test xs ≡ true → (x : A) × Contains xs x × (test x ≡ true)
+any_held test [] h = absurd (false≢true h)
+any_held test (x ∷ xs) h = elim (or_cases (test x) (list_any test xs) h) [
+  | inl e ↦ (x, (0, omega arith, refl), e)
+  | inr e ↦ (let r = any_held test xs e in (r.0, (let i = r.1 in (suc i.0, omega (arith, i.1), i.2)), r.2))
+]
+
+pub in_map : {A B : Type 0} (f : A → B) (xs : List A) (x : A) → Contains xs x → Contains (map f xs) (f x)
+in_map f [] x h = absurd (omega (arith, h.1))
+in_map f (y ∷ xs) x (zero, l, e) = (zero, omega arith, ap f e)
+in_map f (y ∷ xs) x (suc k, l, e) = let r = in_map f xs x (k, omega (arith, l), e) in (suc r.0, omega (arith, r.1), r.2)

@@ -8,17 +8,14 @@ use Rattle.lt_model.specs.declared.Op.{Op}
 use Rattle.lt_model.specs.declared.Op.TheVariants as ops
 use Rattle.lt_model.specs.Layout.{Cell, Leaf, null_cell, unset}
 use Rattle.lt_model.specs.Sound.{up_to_ts}
-use Rattle.lt_laws.proofs.ComposeLemmas.{compose_laws}
 use Rattle.lt_model.specs.Bundle.{bundle_bytes, cut, cut_groups, full_size, grouped, with_group}
 use Rattle.std.specs.Option.{option_map_or}
 use Rattle.lt_model.specs.Claims.{WholeClaims, claimed, whole_claims}
 use Rattle.lt_model.specs.Store.{Delta, carried_versions, delta_with, deltas_of}
-use Rattle.lt_model.specs.Laws.{ListLaws, VersionLaws}
 use Rattle.lt_model.specs.Schema.{Catalogue}
 use Rattle.lt_model.specs.Version.{RowVersion, asof, clip, compose, effect_by, effect_of, is_ordered, merge, overlay, put_versions}
-use Rattle.lt_laws.proofs.ClipLaws.{clip-clip, clips-abut, coerce-clip, coerce-merge, coerce-ordered}
-use Rattle.lt_laws.proofs.MergeLaws.{clip-merge, clip-ordered, merge-is-merge, merge-within, one-merge, same-back, same-itself, same-key}
-use Rattle.lt_laws.proofs.MomentLaws.{asof-clip, asof-collapse, asof-ordered, asof-rows, collapse-clip, collapse-collapse, collapse-newer, collapse-ordered, laid, laid_by, lay, lay-as, lay-key, of_key, rows_at, without}
+use Rattle.lt_laws.proofs.MergeLaws.{clip-merge, same-back, same-itself, same-key}
+use Rattle.lt_laws.proofs.MomentLaws.{asof-rows, laid, laid_by, lay, lay-as, lay-key, of_key, rows_at, without}
 
 -- ---- the effect of a key's versions
 
@@ -166,33 +163,3 @@ whole cat shelf (id ∷ ids) r table = whole-by cat r table (delta_with shelf id
 
 pub whole-claims : WholeClaims
 whole-claims cat shelf ids r table = whole cat shelf ids r table ∙ sym (clip-merge r (map (carried_versions cat table) (deltas_of shelf ids)))
-
--- ---- all of these
-
-pub version_laws : VersionLaws
-version_laws = record {
-  merged = merge-is-merge;
-  composed = asof-effect;
-  collapsed = asof-collapse;
-  cut_whole = cut-whole;
-  compositions = compose_laws;
-}
-
-pub list_laws : ListLaws
-list_laws = record {
-  one_merge = one-merge;
-  merge_within = merge-within;
-  clip_merge = clip-merge;
-  clip_clip = clip-clip;
-  clips_abut = clips-abut;
-  coerce_merge = coerce-merge;
-  coerce_clip = coerce-clip;
-  asof_clip = asof-clip;
-  collapse_clip = collapse-clip;
-  collapse_collapse = collapse-collapse;
-  collapse_newer = collapse-newer;
-  clip_ordered = clip-ordered;
-  coerce_ordered = coerce-ordered;
-  asof_ordered = asof-ordered;
-  collapse_ordered = collapse-ordered;
-}

@@ -37,7 +37,7 @@ rolled-above-by : (u v : RowVersion) (ws : List RowVersion) (b : Bool) → IsTru
 rolled-above-by u v ws true h a = (h, a)
 rolled-above-by u v ws false h a = onto-above u v ws h a
 
-rolled-above : (t : ℕ) (u : RowVersion) (vs : List RowVersion) → Above u vs → Above u (rolled_up t vs)
+pub rolled-above : (t : ℕ) (u : RowVersion) (vs : List RowVersion) → Above u vs → Above u (rolled_up t vs)
 rolled-above t u [] a = tt
 rolled-above t u (v ∷ vs) a = rolled-above-by u v (rolled_up t vs) (nat_lt t v.ts) a.0 (rolled-above t u vs a.1)
 
@@ -170,7 +170,7 @@ later-by Less x h i = cc
 later-by Equal x h i = h
 later-by Greater x h i = cc
 
-later : (v w : RowVersion) → stands_before v w ≡ true → same_key v.key w.key ≡ true → w.ts < v.ts
+pub later : (v w : RowVersion) → stands_before v w ≡ true → same_key v.key w.key ≡ true → w.ts < v.ts
 later v w h i = ltb-true w.ts v.ts (later-by (bytes_cmp v.key w.key) (nat_lt w.ts v.ts) h i)
 
 rows-cons : (keep : Bool) → (t : ℕ) (v : RowVersion) (vs : List RowVersion) → v.ts ≤ t → lists_at keep t (v ∷ vs) ≡ laid v (lists_at keep t vs)

@@ -1,4 +1,5 @@
 -- What a check of a stream keeps of its items suffices: a point tells what the list tells, and goes on as it does.
+pub use Rattle.lt_codecs.proofs.ListFacts.{or_left, or_right, when_none}
 use Rattle.std.proofs.Common.{Bool, List, [], ap, append-nil, append_assoc, ap₂, arith, cond, false, le-ltb, lt-ltb, ltb-false, ltb-true, refl, subst, sym, true, ℕ, ◌++◌, ◌<◌, ◌∙◌, ◌∷◌, ◌≡◌, ◌≤◌}
 use Rattle.std.specs.Prelude.{None, Option, Some, filter, fold, if◌then◌else◌, is_none, max, nat_le, nat_lt, not, option_and_then, map, ⊤, ◌&&◌}
 use Rattle.std.specs.List.{AllByRecursion}
@@ -274,18 +275,6 @@ windows_push cs c w rises = record {
 pub none : {A : Type 0} (o : Option A) → is_none o ≡ true → o ≡ None
 none None h = refl
 none (Some a) h = cc
-
-pub or_left : {A : Type 0} (o p : Option A) → option_or o p ≡ None → o ≡ None
-or_left None p h = refl
-or_left (Some a) p h = h
-
-pub or_right : {A : Type 0} (o p : Option A) → option_or o p ≡ None → p ≡ None
-or_right None p h = h
-or_right (Some a) p h = cc
-
-pub when_none : {A : Type 0} (b : Bool) (a : A) → when b a ≡ None → b ≡ false
-when_none true a h = cc
-when_none false a h = refl
 
 -- the faults of a change that its place in the list does not matter for
 abbrev pub shape_faults : Header → Catalogue → Change → List (Option Unfair)

@@ -324,7 +324,7 @@ no_streams : (s : State) → with_streams [] s ≡ s
 no_streams s = ap (λ (x : List StreamAt). record s { streams = x }) (append-nil s.streams)
 
 pub pump_keeps : (n asked : ℕ) → KeepsDoing (do_pump n asked)
-pump_keeps n asked feed fs s s' a b good e d =
+pump_keeps n asked feed fs s s' a good e d =
     let items = d.0 in
     let p = d.3 in
     let m = moved feed (cat_of s) n 0 items p.rest fs s.streams p.stands good.fronts.each good.ready.places p.known p.takes in

@@ -15,7 +15,7 @@ use Rattle.lt_model.specs.Row.{Row, after_change, read_row, row_by}
 use Rattle.lt_model.specs.Version.{carried, read_cells}
 use Rattle.lt_laws.proofs.CarrierLaws.{shape_within}
 use Rattle.lt_laws.proofs.ConversionLemmas.{is_rising}
-use Rattle.lt_laws.proofs.ListFacts.{all_append, all_at, all_both, all_from, all_map, contains_front, contains_rest, find_all}
+use Rattle.lt_laws.proofs.ListFacts.{all_append, all_at, all_both, all_from, all_map, all_of_map, contains_front, contains_rest, find_all}
 use Rattle.lt_laws.proofs.ScanLemmas.{AreFine, IsCarried, IsWithin, kind_for, read-carried}
 use Rattle.lt_laws.proofs.TableLaws.{FineColumns, IsFineKind, IsFineTable, carrier_carries, carrier_stands, carrier_takes, fine_table}
 use Rattle.lt_laws.proofs.TakenLaws.{Passes, change_shaped, left, right}
@@ -41,7 +41,7 @@ rises_kept_by : (p : ℕ → Bool) (low n : ℕ) (ns : List ℕ) (b : Bool) → 
 rises_kept_by p low n ns true l up = and_from _ _ (lt-ltb low n l) up
 rises_kept_by p low n ns false l up = rises_lower low n (filter p ns) (omega (arith, l)) up
 
-rises_kept : (p : ℕ → Bool) (low : ℕ) (ns : List ℕ) → IsTrue (rises_above low ns) → IsTrue (rises_above low (filter p ns))
+pub rises_kept : (p : ℕ → Bool) (low : ℕ) (ns : List ℕ) → IsTrue (rises_above low ns) → IsTrue (rises_above low (filter p ns))
 rises_kept p low [] up = refl
 rises_kept p low (n ∷ ns) up = let q = and_parts (nat_lt low n) (rises_above n ns) up in rises_kept_by p low n ns (p n) (ltb-true low n q.0) (rises_kept p n ns q.1)
 
@@ -52,13 +52,9 @@ all_above low (n ∷ ns) up = let p = and_parts (nat_lt low n) (rises_above n ns
 
 -- ---- the numbers of a table's columns
 
-all_of_map : (low : ℕ) (cs : List Column) → AllByRecursion (λ n. low < n) (map (λ c. c.number) cs) → AllByRecursion (λ c. low < c.number) cs
-all_of_map low [] a = tt
-all_of_map low (c ∷ cs) a = (a.0, all_of_map low cs a.1)
-
 columns_above : (rs : List Registered) → AllByRecursion FineColumns rs → AllByRecursion (λ c. 0 < c.number) (flat_map (λ r. r.columns) rs)
 columns_above [] a = tt
-columns_above (r ∷ rs) a = all_append (λ c. 0 < c.number) r.columns (flat_map (λ r. r.columns) rs) (all_of_map 0 r.columns (all_above 0 (map (λ c. c.number) r.columns) a.0.rise)) (columns_above rs a.1)
+columns_above (r ∷ rs) a = all_append (λ c. 0 < c.number) r.columns (flat_map (λ r. r.columns) rs) (all_of_map (λ n. 0 < n) (λ (c : Column). c.number) r.columns (all_above 0 (map (λ c. c.number) r.columns) a.0.rise)) (columns_above rs a.1)
 
 numbers_rise : (cs : List Column) (ns : List ℕ) → AllByRecursion (λ c. 0 < c.number) cs → IsTrue (rises_above 0 ns) → IsTrue (rises_above 0 (fold (λ ns c. put_number c.number ns) ns cs))
 numbers_rise [] ns a up = up
@@ -194,7 +190,7 @@ columns_named low [] up = tt
 columns_named low (c ∷ cs) up = let p = and_parts (nat_lt low c.number) (rises_above c.number (map (λ c. c.number) cs)) up in (
   ap (λ (b : Bool). cond b (Some c) (column_numbered cs c.number)) (eq-eqb c.number c.number refl),
   all_both (λ d. c.number < d.number) (λ d. column_numbered cs d.number ≡ Some d) (λ d. column_numbered (c ∷ cs) d.number ≡ Some d) cs (λ d. named_later c d cs)
-      (all_of_map c.number cs (all_above c.number (map (λ c. c.number) cs) p.1)) (columns_named c.number cs p.1),
+      (all_of_map (λ n. c.number < n) (λ (c : Column). c.number) cs (all_above c.number (map (λ c. c.number) cs) p.1)) (columns_named c.number cs p.1),
 )
 
 column_carried : (t : Table) (v : ℕ) (r : Registered) (c : Column) → IsFineTable t → registered t v ≡ Some r → IsTrue r.live → Contains r.columns c → column_numbered r.columns c.number ≡ Some c → IsCarried t (live_numbers t) c

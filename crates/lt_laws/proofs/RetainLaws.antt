@@ -128,10 +128,10 @@ resumes_all t [] a = tt
 resumes_all t (p ∷ ps) a = (a.0, resumes_all t ps a.1)
 
 job_retained : (d : Durable) (t : ℕ) (j : Job) → d.minimum ≤ t → JobBegan d j → JobBegan (with_minimum d t) j
-job_retained d t j low h = record { range = h.range; catalogue = h.catalogue; lawful = h.lawful; inputs = h.inputs; minimum = (let l : j.minimum ≤ d.minimum = h.minimum in omega (arith, l, low)); taken = h.taken }
+job_retained d t j low h = record { range = h.range; shelved = h.shelved; catalogue = h.catalogue; lawful = h.lawful; inputs = h.inputs; minimum = (let l : j.minimum ≤ d.minimum = h.minimum in omega (arith, l, low)); taken = h.taken }
 
 pub retain_keeps : (t : ℕ) → KeepsDoing (do_retain t)
-retain_keeps t feed fs s s' a b good e d =
+retain_keeps t feed fs s s' a good e d =
     let u = unrefused s (do_retain t) e in
     let high : t ≤ least (resumes s.durable) = ltb-false (least (resumes s.durable)) t (when_none (nat_lt (least (resumes s.durable)) t) (above_durable (least (resumes s.durable))) (or_left _ _ u.retain)) in
     let low : s.durable.minimum ≤ t = ltb-false t s.durable.minimum (when_none (nat_lt t s.durable.minimum) (below_minimum s.durable.minimum) (or_right (when (nat_lt (least (resumes s.durable)) t) (above_durable (least (resumes s.durable)))) _ u.retain)) in

@@ -30,20 +30,20 @@ use Rattle.lt_laws.proofs.SoundLaws.{at-least, before-take, checkpoint-is, in-so
 
 -- ---- each partition's versions
 
-abbrev part_held : Catalogue → List Change → Durable → ℕ → Part → Range → List (List ℕ × ℕ) → List RowVersion
+abbrev pub part_held : Catalogue → List Change → Durable → ℕ → Part → Range → List (List ℕ × ℕ) → List RowVersion
 part_held cat source d table p r names = put_versions (clip r (seen_pending source cat names table)) (stored d p r table)
 
-abbrev parts_held : Catalogue → List Change → Durable → ℕ → List Part → List Range → List (List (List ℕ × ℕ)) → List (List RowVersion)
+abbrev pub parts_held : Catalogue → List Change → Durable → ℕ → List Part → List Range → List (List (List ℕ × ℕ)) → List (List RowVersion)
 parts_held cat source d table [] rs rest = []
 parts_held cat source d table (p ∷ ps) [] rest = []
 parts_held cat source d table (p ∷ ps) (r ∷ rs) [] = []
 parts_held cat source d table (p ∷ ps) (r ∷ rs) (names ∷ rest) = part_held cat source d table p r names ∷ parts_held cat source d table ps rs rest
 
 -- from a place on the names are those of the rest
-abbrev AreFrom : List (List (List ℕ × ℕ)) → ℕ → List (List (List ℕ × ℕ)) → Type 0
+abbrev pub AreFrom : List (List (List ℕ × ℕ)) → ℕ → List (List (List ℕ × ℕ)) → Type 0
 AreFrom all n rest = (k : ℕ) → slice_get all (n + k) ≡ slice_get rest k
 
-parts_are : (cat : Catalogue) (source : List Change) (d : Durable) (table : ℕ) (cs : List Change) (all : List (List (List ℕ × ℕ))) (n : ℕ) (ps : List Part) (rs : List Range) (rest : List (List (List ℕ × ℕ))) → PendingOfAll cat d cs ps rs rest → AreFrom all n rest
+pub parts_are : (cat : Catalogue) (source : List Change) (d : Durable) (table : ℕ) (cs : List Change) (all : List (List (List ℕ × ℕ))) (n : ℕ) (ps : List Part) (rs : List Range) (rest : List (List (List ℕ × ℕ))) → PendingOfAll cat d cs ps rs rest → AreFrom all n rest
     → map (λ x. put_versions (clip x.1.1 (seen_pending source cat (unwrap_or (slice_get all x.0) []) table)) (stored d x.1.0 x.1.1 table)) (numbered_from n (zip ps rs)) ≡ parts_held cat source d table ps rs rest
 parts_are cat source d table cs all n [] rs rest a f = refl
 parts_are cat source d table cs all n (p ∷ ps) [] rest a f = refl
@@ -149,10 +149,10 @@ in_a_part key ps t = in-some-part key (list_any (λ x. in_range key x.1) (zip ps
 
 -- ---- a safe partition has passed the changes up to the moment
 
-abbrev IsPassed : Range → ℕ → List Change → Change → Type 0
+abbrev pub IsPassed : Range → ℕ → List Change → Change → Type 0
 IsPassed r t cs c = in_range (change_key c) r ≡ true → c.ts ≤ t → Contains cs c
 
-passed_all : (feed : Feed) (cat : Catalogue) (r : Range) (t n : ℕ) (fs : List (Header × List Item)) (ss : List StreamAt) → FrontsFrom feed cat n fs → AreAtPlaces fs ss → AllByRecursion (λ m. t ≤ m) (checkpoints_meeting ss r)
+pub passed_all : (feed : Feed) (cat : Catalogue) (r : Range) (t n : ℕ) (fs : List (Header × List Item)) (ss : List StreamAt) → FrontsFrom feed cat n fs → AreAtPlaces fs ss → AllByRecursion (λ m. t ≤ m) (checkpoints_meeting ss r)
     → AllByRecursion (IsPassed r t (passed fs ss)) (source_of fs)
 passed_all feed cat r t n [] ss a b l = tt
 passed_all feed cat r t n (f ∷ fs) [] a b l = absurd b
@@ -180,25 +180,27 @@ passed_all feed cat r t n (f ∷ fs) (s ∷ ss) a b l =
 
 -- ---- what is pending of a key
 
-abbrev is_named : ℕ → List ℕ × ℕ → Change → Bool
+abbrev pub is_named : ℕ → List ℕ × ℕ → Change → Bool
 is_named table n c = c.table == table && machine.named n c
 
-record SeenFrom (cat : Catalogue) (source : List Change) (names : List (List ℕ × ℕ)) (v : RowVersion) : Type 0 where
-  name : List ℕ × ℕ
-  known : Contains names name
-  change : Change
-  held : Contains source change
-  fits : machine.named name change ≡ true
-  is : v ≡ seen cat change
+pub record SeenFrom (cat : Catalogue) (source : List Change) (names : List (List ℕ × ℕ)) (table : ℕ) (v : RowVersion) : Type 0 where
+  pub name : List ℕ × ℕ
+  pub known : Contains names name
+  pub change : Change
+  pub held : Contains source change
+  pub of_table : change.table ≡ table
+  pub fits : machine.named name change ≡ true
+  pub is : v ≡ seen cat change
 
-seen_from : (cat : Catalogue) (source : List Change) (names : List (List ℕ × ℕ)) (table : ℕ) (v : RowVersion) → Contains (seen_pending source cat names table) v → SeenFrom cat source names v
+pub seen_from : (cat : Catalogue) (source : List Change) (names : List (List ℕ × ℕ)) (table : ℕ) (v : RowVersion) → Contains (seen_pending source cat names table) v → SeenFrom cat source names table v
 seen_from cat source names table v h =
     let a = from_filter_map (λ n. option_map (seen cat) (find (is_named table n) source)) names v h in
     let b = mapped_some (seen cat) (find (is_named table a.0) source) v a.2 in
     let c = find_held (is_named table a.0) source b.0 b.1 in
-    record { name = a.0; known = a.1; change = b.0; held = c.0; fits = (and_parts (b.0.table == table) (machine.named a.0 b.0) c.1).1; is = sym b.2 }
+    let t = and_parts (b.0.table == table) (machine.named a.0 b.0) c.1 in
+    record { name = a.0; known = a.1; change = b.0; held = c.0; of_table = eqb-true b.0.table table t.0; fits = t.1; is = sym b.2 }
 
-seen_in : (cat : Catalogue) (source : List Change) (names : List (List ℕ × ℕ)) (table : ℕ) (c : Change) → Contains names (change_key c, c.ts) → Contains source c → c.table ≡ table
+pub seen_in : (cat : Catalogue) (source : List Change) (names : List (List ℕ × ℕ)) (table : ℕ) (c : Change) → Contains names (change_key c, c.ts) → Contains source c → c.table ≡ table
     → ((d : Change) → Contains source d → change_key d ≡ change_key c → d.ts ≡ c.ts → d ≡ c) → Contains (seen_pending source cat names table) (seen cat c)
 seen_in cat source names table c h i e only =
     let n : List ℕ × ℕ = (change_key c, c.ts) in
@@ -264,6 +266,11 @@ key_held feed fs s t key i at lists good known k p inside =
 pub tiles_of : (d : Durable) → IsLawfulPart d → IsTrue (tile (map (λ p. p.low) d.parts))
 tiles_of d l = (and_parts _ _ (and_parts _ _ l.manifest.parts).0).0
 
+-- what a good session holds, part by part
+pub held_parts : (feed : Feed) (fs : List (Header × List Item)) (s : State) (table : ℕ) → IsGood feed s fs
+    → held_versions (source_of fs) s table ≡ merge (parts_held (cat_of s) (source_of fs) s.durable table s.durable.parts (ranges_of s.durable) s.pending)
+held_parts feed fs s table good = ap merge (parts_are (cat_of s) (source_of fs) s.durable table (passed fs s.streams) s.pending 0 s.durable.parts (ranges_of s.durable) s.pending good.ready.pending (λ k. ap (slice_get s.pending) (omega arith)))
+
 -- what is read of the key at a safe moment is its row then, in cells
 pub key_reads : (feed : Feed) (fs : List (Header × List Item)) (s : State) (t : Table) (key : List ℕ) (i : Range) (at : ℕ) → IsGood feed s fs → table_numbered (cat_of s) t.number ≡ Some t → s.durable.minimum ≤ at → first_below s i at ≡ None
     → AreOf t.number (changes_to key (source_of fs)) → IsTrue (has_table t.number key) → in_range key i ≡ true
@@ -276,8 +283,7 @@ key_reads feed fs s t key i at good known low safe of has inside =
     let cs = passed fs s.streams in
     let lists = parts_held cat source s.durable t.number ps rs s.pending in
     let tiles : IsTrue (tile (map (λ p. p.low) ps)) = tiles_of s.durable good.lawful in
-    let e : held_versions source s t.number ≡ merge lists = ap merge (parts_are cat source s.durable t.number cs s.pending 0 ps rs s.pending good.ready.pending (λ k. ap (slice_get s.pending) (omega arith))) in
     let p = part_of_key cat source cs fs s t.number key i at ps rs s.pending good.sound.parts good.ready.pending (tile_sole key (map (λ p. p.low) ps) tiles) (safe_parts s i at 0 ps rs (none-mapped (λ x. (x.0, x.1.1)) _ safe)) (in_a_part key ps tiles) in
-    ap (λ (vs : List RowVersion). option_map (λ (v : RowVersion). v.cells) (find (λ v. same_key v.key key) (asof at vs))) e
+    ap (λ (vs : List RowVersion). option_map (λ (v : RowVersion). v.cells) (find (λ v. same_key v.key key) (asof at vs))) (held_parts feed fs s t.number good)
     ∙ held_reads cat source t.number key s.durable.minimum p.part.resume at (merge lists) (clip p.range (seen_pending source cat p.names t.number)) (stored s.durable p.part p.range t.number) low
     (source_in_time feed cat fs key good.fronts) of (key_held feed fs s t key i at lists good known (record { of_table = of; has = has }) p inside)

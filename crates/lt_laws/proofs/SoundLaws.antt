@@ -15,7 +15,7 @@ use Rattle.lt_model.specs.Schema.{when}
 use Rattle.lt_model.specs.Row.{row_at}
 use Rattle.lt_model.specs.Machine.{checkpoint_at, checkpoints_meeting, first_below, least, numbered_from}
 use Rattle.lt_model.specs.Key.{Range, below, common, first_bound, in_range, is_below_high, meets, same_key}
-use Rattle.lt_model.specs.Schema.{Catalogue, IsCatalogue, as_it_was}
+use Rattle.lt_model.specs.Schema.{Became, Catalogue, IsCatalogue, as_it_was}
 use Rattle.lt_model.specs.Log.{Change, Header, Item, batch_item, change_item, change_key, changes_in, changes_of, checkpoint_item, close_item, header_item, is_item, is_read, spelled}
 use Rattle.lt_model.specs.Fair.{AreShort, Feed, Grows, Point, checkpoint_of, greatest_of, header_length, is_closed, is_fair, place_after, point_of}
 use Rattle.lt_model.specs.Machine.{State, StreamAt, behind_header, cat_of, is_usable, last_of, ranges_of, start_of, usable_point}
@@ -77,7 +77,7 @@ filter-all-by : {A : Type 0} (P : A → Type 0) (test : A → Bool) (x : A) (xs 
 filter-all-by P test x xs true e p a = ((p, e), a)
 filter-all-by P test x xs false e p a = a
 
-filter-all : {A : Type 0} (P : A → Type 0) (test : A → Bool) (xs : List A) → AllByRecursion P xs → AllByRecursion (λ x. P x × (test x ≡ true)) (filter test xs)
+pub filter-all : {A : Type 0} (P : A → Type 0) (test : A → Bool) (xs : List A) → AllByRecursion P xs → AllByRecursion (λ x. P x × (test x ≡ true)) (filter test xs)
 filter-all P test [] a = tt
 filter-all P test (x ∷ xs) a = filter-all-by P test x (filter test xs) (test x) refl a.0 (filter-all P test xs a.1)
 
@@ -540,9 +540,9 @@ none-mapped f None e = refl
 none-mapped f (Some x) e = cc
 
 -- the row of each key of an interval stays, up to a moment at which no partition that meets it is behind
-pub safe_row_stays : (feed more : Feed) (fs : List (Header × List Item)) (s : State) → Grows feed more → IsGood feed s fs → (gs : List (Header × List Item)) → Fronts more (cat_of s) gs
+pub safe_row_stays : (feed more : Feed) (wide : Catalogue) (fs : List (Header × List Item)) (s : State) → Grows feed more → Became (cat_of s) wide → IsGood feed s fs → (gs : List (Header × List Item)) → Fronts more wide gs
     → (q : Range) (t : ℕ) → first_below s q t ≡ None → (key : List ℕ) → in_range key q ≡ true → row_at (source_of gs) key t ≡ row_at (source_of fs) key t
-safe_row_stays feed more fs s grows good gs b q t e key w =
-    row_stays frames_prefix_free feed more (cat_of s) (cat_of s) fs gs grows (grows-same feed more grows) good.lawful.manifest.catalogue as_it_was good.fronts b key t
+safe_row_stays feed more wide fs s grows became good gs b q t e key w =
+    row_stays frames_prefix_free feed more (cat_of s) wide fs gs grows (grows-same feed more grows) good.lawful.manifest.catalogue became good.fronts b key t
     (in-some-part key (ArePast key t fs) s.durable.parts (left _ _ (left _ _ good.lawful.manifest.parts))
     (parts-safe feed s.durable key q t 0 fs s.streams good.fronts.each good.ready.places w s.durable.parts (ranges_of s.durable) good.sound.parts (none-mapped (λ x. (x.0, x.1.1)) _ e)))

@@ -257,12 +257,12 @@ each_split : (P Q : Part → Range → Type 0) (key : List ℕ) (ps : List Part)
 each_split P Q key [] f a = tt
 each_split P Q key (p ∷ ps) f a = each_by P Q key p ps (in_range key (record { low = p.low; high = first_bound (lows_of ps) })) refl f a.0 a.1 (each_split P Q key ps f a.1)
 
-sound_each : (d : Durable) (fs : List (Header × List Item)) (ps : List Part) (rs : List Range) → SoundParts d fs ps rs → Each (SoundPart d fs) ps rs
+pub sound_each : (d : Durable) (fs : List (Header × List Item)) (ps : List Part) (rs : List Range) → SoundParts d fs ps rs → Each (SoundPart d fs) ps rs
 sound_each d fs [] rs a = tt
 sound_each d fs (p ∷ ps) [] a = a
 sound_each d fs (p ∷ ps) (r ∷ rs) a = (a.0, sound_each d fs ps rs a.1)
 
-each_sound : (d : Durable) (fs : List (Header × List Item)) (ps : List Part) (rs : List Range) → Each (SoundPart d fs) ps rs → SoundParts d fs ps rs
+pub each_sound : (d : Durable) (fs : List (Header × List Item)) (ps : List Part) (rs : List Range) → Each (SoundPart d fs) ps rs → SoundParts d fs ps rs
 each_sound d fs [] rs a = tt
 each_sound d fs (p ∷ ps) [] a = a
 each_sound d fs (p ∷ ps) (r ∷ rs) a = (a.0, each_sound d fs ps rs a.1)
@@ -369,7 +369,7 @@ with_lows P key [] rs a n = tt
 with_lows P key (p ∷ ps) [] a n = a
 with_lows P key (p ∷ ps) (r ∷ rs) a n = ((a.0, n.0), with_lows P key ps rs a.1 n.1)
 
-each_pair : (P Q : Part → Range → Type 0) (ps : List Part) (rs : List Range) → Each P ps rs → Each Q ps rs → Each (λ p r. P p r × Q p r) ps rs
+pub each_pair : (P Q : Part → Range → Type 0) (ps : List Part) (rs : List Range) → Each P ps rs → Each Q ps rs → Each (λ p r. P p r × Q p r) ps rs
 each_pair P Q [] rs a b = tt
 each_pair P Q (p ∷ ps) [] a b = a
 each_pair P Q (p ∷ ps) (r ∷ rs) a b = ((a.0, b.0), each_pair P Q ps rs a.1 b.1)
@@ -386,6 +386,7 @@ job_split d j key n h =
       each_zipped (StandsAt d j) ps (part_ranges ps) (each_as P (StandsAt d j) ps (part_ranges ps) (λ p r x. x.0) now),
       record {
         range = each_zipped (λ p r. IsWholeIn j r) ps (part_ranges ps) (each_as P (λ p r. IsWholeIn j r) ps (part_ranges ps) (λ p r x. x.1) now);
+        shelved = h.1.shelved;
         catalogue = h.1.catalogue;
         lawful = h.1.lawful;
         inputs = h.1.inputs;
@@ -497,7 +498,7 @@ of_split_at : {A : Type 0} (s : State) (t : List ℕ) (ls : List Literal) (x : T
 of_split_at s t ls x f e = ap (option_and_then (λ y. f y ls)) e
 
 pub split_keeps : (t : List ℕ) (ls : List Literal) → KeepsDoing (do_split t ls)
-split_keeps t ls feed fs s s' a b good e d =
+split_keeps t ls feed fs s s' a good e d =
     let u = unrefused s (do_split t ls) e in
     let x = d.0 in
     let key = split_key x ls in

@@ -1,5 +1,5 @@
 -- Steps keep a good session, command by command: the reads, and those that change no durable part.
-use Rattle.std.proofs.Common.{Bool, List, [], ap, ap₂, arith, cond, false, lt-ltb, ltb-true, refl, subst, sym, true, ℕ, ◌+◌, ◌<◌, ◌∙◌, ◌∷◌, ◌≡◌, inl, inr}
+use Rattle.std.proofs.Common.{Bool, List, [], ap, ap₂, arith, cond, false, length, lt-ltb, ltb-true, refl, subst, sym, true, ℕ, ◌+◌, ◌<◌, ◌∙◌, ◌∷◌, ◌≡◌, inl, inr}
 use Rattle.std.specs.Prelude.{Contains, IfSome, IsTrue, None, Option, Some, is_none, is_some, map, nat_lt, ◌&&◌, ◌-◌, ◌==◌, ◌^◌, ◌≢◌, ◌⊎◌}
 use Rattle.lt_model.specs.Key.{Range, ranges_from}
 use Rattle.lt_model.specs.Schema.{Catalogue, when}
@@ -7,12 +7,14 @@ use Rattle.lt_model.specs.Log.{Change, Header, Item}
 use Rattle.lt_model.specs.Fair.{Feed}
 use Rattle.lt_model.specs.Store.{Durable, IsLawfulPart, Part, stored}
 use Rattle.lt_model.specs.Version.{RowVersion, seen}
-use Rattle.lt_model.specs.Script.{Command, do_deltas, do_job_drop, do_page, do_reopen, do_scan, do_status}
-use Rattle.lt_model.specs.Machine.{asks_for_job, bad_column_asked, compaction_asked, delta_limit, is_worn, is_write, last_version_retired, long_key, not_done_yet, not_safe_asked, retain_fault, retired_asked, schema_refused, split_fault, too_old_asked, unknown_delta, unknown_part, unknown_stream, unknown_table_asked, unknown_version_asked, wrong_literal_asked, Answer, Does, StepBy, refused, State, StreamAt, initial_headers, is_broken, opened}
-use Rattle.lt_model.specs.Sound.{AreAtPlaces, IsGood, KeepsGood, PendingOf, PendingOfAll, low_bounds, source_of}
+use Rattle.lt_model.specs.Script.{Command, do_compact, do_deltas, do_flush, do_job_begin, do_job_drop, do_job_finish, do_job_step, do_page, do_pump, do_reopen, do_retain, do_retire, do_scan, do_schema, do_split, do_status}
+use Rattle.lt_model.specs.Machine.{asks_for_job, bad_column_asked, compaction_asked, delta_limit, is_worn, is_write, last_version_retired, long_key, not_done_yet, not_safe_asked, retain_fault, retired_asked, schema_refused, split_fault, too_old_asked, unknown_delta, unknown_part, unknown_stream, unknown_table_asked, unknown_version_asked, wrong_literal_asked, Answer, Does, StepBy, refused, State, StreamAt, cat_of, initial_headers, is_broken, opened}
+use Rattle.lt_model.specs.Sound.{AreAtPlaces, FailedIsSound, Fronts, FrontsFrom, IsGood, IsSoundFor, KeepsGood, PendingOf, PendingOfAll, SoundPartOf, low_bounds, source_of}
 use Rattle.lt_model.specs.Query.{Query}
 use Rattle.lt_model.specs.Reply.{Refusal, job_open, needs_reopen, no_job, worn}
 use Rattle.std.proofs.lemmas.Bool.{and_from, and_parts, eqb-false, or_parts}
+use Rattle.lt_codecs.proofs.LogLaws.{frames_prefix_free}
+use Rattle.lt_laws.proofs.FrontLaws.{header_unique}
 use Rattle.lt_laws.proofs.PointLaws.{when_none}
 use Rattle.lt_laws.proofs.TableLaws.{all_none}
 use Rattle.lt_laws.proofs.SoundLaws.{opening_is_good}
@@ -33,7 +35,7 @@ without_job feed fs s good = record {
   ready = record { places = good.ready.places; pending = good.ready.pending; job = tt };
 }
 
--- ---- a reopening, with nothing broken
+-- ---- a reopening
 
 either_way : (b : Bool) (hs : List Header) → cond b hs hs ≡ hs
 either_way true hs = refl
@@ -57,47 +59,96 @@ headers_are [] (s ∷ ss) a = absurd a
 headers_are (f ∷ fs) [] a = absurd a
 headers_are (f ∷ fs) (s ∷ ss) a = ap₂ (λ (h : Header) (l : List Header). h ∷ l) a.0 (headers_are fs ss a.2)
 
-not_broken : (s : State) (d : Durable) → is_broken s ≡ false → (d ≡ s.durable) ⊎ (s.broken ≡ Some d) → d ≡ s.durable
-not_broken s d b (inl e) = e
-not_broken s d b (inr e) = let f : true ≡ false = ap is_some (sym e) ∙ b in cc
+-- the fronts of a feed have the same headers under all catalogues
+same_headers : (feed : Feed) (cat wide : Catalogue) (n : ℕ) (fs gs : List (Header × List Item)) → length fs ≡ length gs → FrontsFrom feed cat n fs → FrontsFrom feed wide n gs → map (λ f. f.0) fs ≡ map (λ f. f.0) gs
+same_headers feed cat wide n [] [] l a b = refl
+same_headers feed cat wide n [] (g ∷ gs) l a b = absurd (omega (arith, l))
+same_headers feed cat wide n (f ∷ fs) [] l a b = absurd (omega (arith, l))
+same_headers feed cat wide n (f ∷ fs) (g ∷ gs) l a b =
+    ap₂ (λ (h : Header) (hs : List Header). h ∷ hs) (header_unique frames_prefix_free feed n f.0 g.0 a.0 b.0) (same_headers feed cat wide (n + 1) fs gs (omega (arith, l)) a.3 b.3)
 
-reopened : (feed : Feed) (fs : List (Header × List Item)) (s : State) (d : Durable) → IsGood feed s fs → d ≡ s.durable → IsGood feed (opened d (initial_headers (map (λ x. x.header) s.streams))) fs
-reopened feed fs s d good e =
-    let hs = map (λ (f : Header × List Item). f.0) fs in
-    let h : initial_headers (map (λ x. x.header) s.streams) ≡ hs = ap initial_headers (headers_are fs s.streams good.ready.places) ∙ all_initial hs good.fronts.tiling.1 in
-    subst (λ (x : List Header). IsGood feed (opened d x) fs) (sym h) (subst (λ (x : Durable). IsGood feed (opened x hs) fs) (sym e) (opening_is_good feed fs s.durable good.short good.lawful good.fronts good.sound))
+-- what a reopening may read is sound: the session's durable part, or what a failed command would have left
+pub good_sound : (feed : Feed) (fs : List (Header × List Item)) (s : State) → IsGood feed s fs → IsSoundFor feed s.durable
+good_sound feed fs s good = (good.lawful, (fs, good.fronts, good.sound))
+
+read_sound : (feed : Feed) (fs : List (Header × List Item)) (s : State) (d : Durable) → IsGood feed s fs → FailedIsSound feed s → (d ≡ s.durable) ⊎ (s.broken ≡ Some d) → IsSoundFor feed d
+read_sound feed fs s d good failed (inl e) = subst (IsSoundFor feed) (sym e) (good_sound feed fs s good)
+read_sound feed fs s d good failed (inr e) = subst (λ (o : Option Durable). IfSome o (IsSoundFor feed)) e failed
+
+reopened : (feed : Feed) (fs gs : List (Header × List Item)) (s : State) (d : Durable) → IsGood feed s fs → IsLawfulPart d → Fronts feed d.catalogue gs → SoundPartOf d gs → IsGood feed (opened d (initial_headers (map (λ x. x.header) s.streams))) gs
+reopened feed fs gs s d good lawful fronts sound =
+    let h : initial_headers (map (λ x. x.header) s.streams) ≡ map (λ (f : Header × List Item). f.0) gs = ap initial_headers (headers_are fs s.streams good.ready.places)
+    ∙ all_initial (map (λ (f : Header × List Item). f.0) fs) good.fronts.tiling.1 ∙ same_headers feed (cat_of s) d.catalogue 0 fs gs (good.fronts.all ∙ sym fronts.all) good.fronts.each fronts.each in
+    subst (λ (x : List Header). IsGood feed (opened d x) gs) (sym h) (opening_is_good feed gs d good.short lawful fronts sound)
 
 -- ---- the rows of the table
 
 -- A command keeps what is good where it does so when the state does not refuse it.
 abbrev pub KeepsDoing : Command → Type 0
-KeepsDoing c = (feed : Feed) (fs : List (Header × List Item)) (s s' : State) (a : Answer) → is_broken s ≡ false → IsGood feed s fs → refused s c ≡ None → Does feed (source_of fs) s c a s' → (gs : List (Header × List Item)) × IsGood feed s' gs
+KeepsDoing c = (feed : Feed) (fs : List (Header × List Item)) (s s' : State) (a : Answer) → IsGood feed s fs → refused s c ≡ None → Does feed (source_of fs) s c a s' → (gs : List (Header × List Item)) × IsGood feed s' gs
 
 by_refusal : (c : Command) (feed : Feed) (fs : List (Header × List Item)) (s s' : State) (a : Answer) (o : Option Refusal) → IsGood feed s fs → refused s c ≡ o → StepBy o feed (source_of fs) s c a s'
     → (refused s c ≡ None → Does feed (source_of fs) s c a s' → (gs : List (Header × List Item)) × IsGood feed s' gs) → (gs : List (Header × List Item)) × IsGood feed s' gs
 by_refusal c feed fs s s' a (Some r) good e step f = (fs, as_it_was feed fs s s' good step.1)
 by_refusal c feed fs s s' a None good e step f = f e step
 
+-- only a reopening changes what a failed command would have left
+stays_broken : (c : Command) (feed : Feed) (source : List Change) (s s' : State) (a : Answer) → Does feed source s c a s' → (s'.broken ≡ s.broken) ⊎ (s'.broken ≡ None)
+stays_broken (do_schema t) feed source s s' a d = inl (ap (λ (x : State). x.broken) d.3)
+stays_broken (do_retire t v) feed source s s' a d = inl (ap (λ (x : State). x.broken) d.3)
+stays_broken (do_pump n k) feed source s s' a d = inl (ap (λ (x : State). x.broken) d.6)
+stays_broken (do_flush p) feed source s s' a d = inl (ap (λ (x : State). x.broken) d.1)
+stays_broken (do_compact p m) feed source s s' a d = inl (ap (λ (x : State). x.broken) d.3)
+stays_broken (do_job_begin p m) feed source s s' a d = inl (ap (λ (x : State). x.broken) d.3)
+stays_broken (do_job_step n) feed source s s' a d = inl (ap (λ (x : State). x.broken) d.3)
+stays_broken do_job_finish feed source s s' a d = inl (ap (λ (x : State). x.broken) d.3)
+stays_broken do_job_drop feed source s s' a d = inl (ap (λ (x : State). x.broken) d.1)
+stays_broken (do_split t k) feed source s s' a d = inl (ap (λ (x : State). x.broken) d.3)
+stays_broken (do_retain t) feed source s s' a d = inl (ap (λ (x : State). x.broken) d.1)
+stays_broken (do_scan q) feed source s s' a d = inl (ap (λ (x : State). x.broken) d.2)
+stays_broken (do_page q) feed source s s' a d = inl (ap (λ (x : State). x.broken) d.2)
+stays_broken do_status feed source s s' a d = inl (ap (λ (x : State). x.broken) d.1)
+stays_broken (do_deltas p) feed source s s' a d = inl (ap (λ (x : State). x.broken) d.1)
+stays_broken do_reopen feed source s s' a d = inr (ap (λ (x : State). x.broken) d.3)
+
+pub failed_as : (feed : Feed) (s s' : State) → s'.broken ≡ s.broken → FailedIsSound feed s → FailedIsSound feed s'
+failed_as feed s s' e failed = subst (λ (o : Option Durable). IfSome o (IsSoundFor feed)) (sym e) failed
+
+failed_stays : (feed : Feed) (s s' : State) → (s'.broken ≡ s.broken) ⊎ (s'.broken ≡ None) → FailedIsSound feed s → FailedIsSound feed s'
+failed_stays feed s s' (inl e) failed = failed_as feed s s' e failed
+failed_stays feed s s' (inr e) failed = subst (λ (o : Option Durable). IfSome o (IsSoundFor feed)) (sym e) tt
+
+failed_by : (c : Command) (feed : Feed) (source : List Change) (s s' : State) (a : Answer) (o : Option Refusal) → FailedIsSound feed s → StepBy o feed source s c a s' → FailedIsSound feed s'
+failed_by c feed source s s' a (Some r) failed step = failed_as feed s s' (ap (λ (x : State). x.broken) step.1) failed
+failed_by c feed source s s' a None failed step = failed_stays feed s s' (stays_broken c feed source s s' a step) failed
+
 pub by_doing : (c : Command) → KeepsDoing c → KeepsGood c
-by_doing c k feed fs s s' a b good step = by_refusal c feed fs s s' a (refused s c) good refl step (λ e d. k feed fs s s' a b good e d)
+by_doing c k feed fs s s' a good failed step = (
+  by_refusal c feed fs s s' a (refused s c) good refl step (λ e d. k feed fs s s' a good e d),
+  failed_by c feed (source_of fs) s s' a (refused s c) failed step,
+)
 
 pub scan_keeps : (q : Query) → KeepsDoing (do_scan q)
-scan_keeps q feed fs s s' a b good e d = (fs, as_it_was feed fs s s' good d.2)
+scan_keeps q feed fs s s' a good e d = (fs, as_it_was feed fs s s' good d.2)
 
 pub page_keeps : (q : Query) → KeepsDoing (do_page q)
-page_keeps q feed fs s s' a b good e d = (fs, as_it_was feed fs s s' good d.2)
+page_keeps q feed fs s s' a good e d = (fs, as_it_was feed fs s s' good d.2)
 
 pub status_keeps : KeepsDoing do_status
-status_keeps feed fs s s' a b good e d = (fs, as_it_was feed fs s s' good d.1)
+status_keeps feed fs s s' a good e d = (fs, as_it_was feed fs s s' good d.1)
 
 pub deltas_keep : (p : ℕ) → KeepsDoing (do_deltas p)
-deltas_keep p feed fs s s' a b good e d = (fs, as_it_was feed fs s s' good d.1)
+deltas_keep p feed fs s s' a good e d = (fs, as_it_was feed fs s s' good d.1)
 
 pub job_drop_keeps : KeepsDoing do_job_drop
-job_drop_keeps feed fs s s' a b good e d = (fs, subst (λ (x : State). IsGood feed x fs) (sym d.1) (without_job feed fs s good))
+job_drop_keeps feed fs s s' a good e d = (fs, subst (λ (x : State). IsGood feed x fs) (sym d.1) (without_job feed fs s good))
 
-pub reopen_keeps : KeepsDoing do_reopen
-reopen_keeps feed fs s s' a b good e d = (fs, subst (λ (x : State). IsGood feed x fs) (sym d.3) (reopened feed fs s d.0 good (not_broken s d.0 b d.1)))
+pub reopen_keeps : KeepsGood do_reopen
+reopen_keeps feed fs s s' a good failed step = (
+  by_refusal do_reopen feed fs s s' a (refused s do_reopen) good refl step (λ e d. let read = read_sound feed fs s d.0 good failed d.1 in
+      (read.1.0, subst (λ (x : State). IsGood feed x read.1.0) (sym d.3) (reopened feed fs read.1.0 s d.0 good read.0 read.1.1 read.1.2))),
+  failed_by do_reopen feed (source_of fs) s s' a (refused s do_reopen) failed step,
+)
 
 -- ---- what holds where the state does not refuse a command
 
@@ -123,8 +174,12 @@ pub record Unrefused (s : State) (c : Command) : Type 0 where
   pub part : unknown_part s c ≡ None
   pub delta : unknown_delta s c ≡ None
   pub short_key : long_key s c ≡ None
+  pub recent : too_old_asked s c ≡ None
+  pub safe : not_safe_asked s c ≡ None
   pub retain : retain_fault s c ≡ None
   pub split : split_fault s c ≡ None
+  pub limit : delta_limit s c ≡ None
+  pub alone : when (is_some (compaction_asked c) && is_some s.job) job_open ≡ None
 
 pub unrefused : (s : State) (c : Command) → refused s c ≡ None → Unrefused s c
 unfolding refused
@@ -138,8 +193,12 @@ unrefused s c e = let a = all_none (refusals s c) e in record {
   part = a.1.1.1.1.1.1.1.1.0;
   delta = a.1.1.1.1.1.1.1.1.1.0;
   short_key = a.1.1.1.1.1.1.1.1.1.1.1.1.0;
+  recent = a.1.1.1.1.1.1.1.1.1.1.1.1.1.0;
+  safe = a.1.1.1.1.1.1.1.1.1.1.1.1.1.1.0;
   retain = a.1.1.1.1.1.1.1.1.1.1.1.1.1.1.1.0;
   split = a.1.1.1.1.1.1.1.1.1.1.1.1.1.1.1.1.0;
+  limit = a.1.1.1.1.1.1.1.1.1.1.1.1.1.1.1.1.1.0;
+  alone = a.1.1.1.1.1.1.1.1.1.1.1.1.1.1.1.1.1.1.0;
 }
 
 -- ---- a commit raises the generation

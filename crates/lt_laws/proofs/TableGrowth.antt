@@ -11,12 +11,11 @@ use Rattle.lt_model.specs.Layout.{Cell, Leaf, bool_cell, cell_to, coerce, flatte
 use Rattle.lt_model.specs.Log.{bit}
 use Rattle.lt_model.specs.Schema.{joined_all, Catalogue, Column, Registered, Table, carrier, carrier_layout, carriers, carriers_of, column_live, column_numbered, column_numbers, has_column, kinds_given, table_numbered}
 use Rattle.lt_model.specs.Store.{leaf_covered}
-use Rattle.lt_laws.proofs.CoerceLaws.{Cells, IsWideFor, any_held, beside, cell_for, found_beside, in_map, map_same, sets_at, unset_to, with_own}
-use Rattle.lt_laws.proofs.JobLaws.{flat_held}
+use Rattle.lt_laws.proofs.CoerceLaws.{Cells, IsWideFor, beside, cell_for, found_beside, map_same, sets_at, unset_to, with_own}
 use Rattle.lt_laws.proofs.ConversionLemmas.{is_rising}
 use Rattle.lt_model.specs.Laws.{lies_within}
 use Rattle.lt_laws.proofs.LeafLaws.{AreColumns, IsMarked, Mark, all_marked, found_leaf, leaf_at, leaf_found, leaf_in, leaf_in_layout, leaf_is, leaf_of, mark_of}
-use Rattle.lt_laws.proofs.ListFacts.{all_at, find_held, from_filter_map, mapped_some}
+use Rattle.lt_laws.proofs.ListFacts.{all_at, any_held, find_held, flat_held, from_filter_map, in_map, mapped_some}
 use Rattle.lt_laws.proofs.ReadLaws.{are_fine, filter_found, has_number, kind_found, live_numbers, numbers_found}
 use Rattle.lt_laws.proofs.ScanLaws.{any_of}
 use Rattle.lt_laws.proofs.ScanLemmas.{IsWithin, at_carrier, leaf_cell-set, found-carrier, from-filter, kind_for, setting-map}
@@ -37,7 +36,7 @@ all_rising (c ∷ cs) h = let p = and_parts (is_rising c.1 && nat_le (nesting c.
 pub are_columns : (t : Table) → IsFineTable t → AreColumns (cols t)
 are_columns t f = let a = are_fine t f in record { rise = a.0; kinds = all_rising (cols t) a.1 }
 
-has_some : (ks : List Kind) (c : Kind) → joined_all ks ≡ Some c → (k : Kind) × Contains ks k
+pub has_some : (ks : List Kind) (c : Kind) → joined_all ks ≡ Some c → (k : Kind) × Contains ks k
 has_some [] c e = cc
 has_some (k ∷ ks) c e = (k, (zero, omega arith, refl))
 
@@ -104,20 +103,20 @@ pub record Widens (t u : Table) : Type 0 where
 abbrev pub IsSetIn : Table → ℕ × Value → Type 0
 IsSetIn t s = IsWithin t s × ((k : Kind) × (carrier t s.0 ≡ Some k))
 
-abbrev set_at : Table → List (ℕ × Value) → List (ℕ × Value)
+abbrev pub set_at : Table → List (ℕ × Value) → List (ℕ × Value)
 set_at t set = map (λ s. (s.0, at_carrier t s.0 s.1)) set
 
-abbrev cell_in : List (ℕ × Value) → Leaf → Cell
+abbrev pub cell_in : List (ℕ × Value) → Leaf → Cell
 cell_in set l = option_map_or (leaf_cell l) (setting l.column set) unset
 
-abbrev HasSetting : (ℕ × Value → Type 0) → ℕ → Value → Type 0
+abbrev pub HasSetting : (ℕ × Value → Type 0) → ℕ → Value → Type 0
 HasSetting P n v = (s : ℕ × Value) × P s × (s.0 ≡ n) × (s.1 ≡ v)
 
 setting_by : (P : ℕ × Value → Type 0) (n : ℕ) (v : Value) (s : ℕ × Value) (o : Option Value) (b : Bool) → (n == s.0) ≡ b → P s → cond b (Some s.1) o ≡ Some v → (o ≡ Some v → HasSetting P n v) → HasSetting P n v
 setting_by P n v s o true d p e f = (s, p, sym (eqb-true n s.0 d), cc)
 setting_by P n v s o false d p e f = f e
 
-setting_held : (P : ℕ × Value → Type 0) (n : ℕ) (v : Value) (set : List (ℕ × Value)) → AllByRecursion P set → setting n set ≡ Some v → HasSetting P n v
+pub setting_held : (P : ℕ × Value → Type 0) (n : ℕ) (v : Value) (set : List (ℕ × Value)) → AllByRecursion P set → setting n set ≡ Some v → HasSetting P n v
 setting_held P n v [] a e = cc
 setting_held P n v (s ∷ set) a e = setting_by P n v s (setting n set) (n == s.0) refl a.0 e (setting_held P n v set a.1)
 

@@ -1,16 +1,19 @@
 -- Tables of a lawful catalogue: their columns' kinds do not clash, and their carriers take whatever a version lets a change set.
-use Rattle.std.proofs.Common.{Bool, List, [], ap, append-nil, arith, cond, eqb-true, false, inl, inr, length, ltb-false, refl, subst, suc, sym, true, zero, ℕ, ◌+◌, ◌++◌, ◌∙◌, ◌∷◌, ◌≡◌, ◌≤◌}
-use Rattle.std.specs.Prelude.{Contains, IsTrue, None, Option, Some, fold, map, nat_lt, not, pos, option_map, slice_get, ⊤, ◌&&◌, ◌-◌, ◌==◌, ◌⊎◌}
+pub use Rattle.lt_codecs.proofs.ListFacts.{all_none}
+use Rattle.lt_codecs.proofs.SpelledCatalogue.{all_faults}
+use Rattle.std.proofs.Common.{Bool, List, [], ap, append-nil, arith, cond, eqb-true, false, inl, inr, ltb-false, refl, subst, suc, sym, true, zero, ℕ, ◌++◌, ◌∙◌, ◌∷◌, ◌≡◌, ◌≤◌}
+use Rattle.std.specs.Prelude.{Contains, IsTrue, None, Option, Some, fold, map, nat_lt, pos, option_map, slice_get, ⊤, ◌&&◌, ◌-◌, ◌==◌, ◌⊎◌}
 use Rattle.std.specs.List.{AllByRecursion, cons_option, list_any}
 use Rattle.std.specs.Option.{option_map_or, option_or}
 use Rattle.std.proofs.lemmas.Bool.{and_from, and_parts, false≢true, not-false}
 use Rattle.lt_model.specs.Value.{is_number, rises_above}
 use Rattle.lt_model.specs.Kind.{FieldKinds, Kind, enumeration, field_kind, nesting, no_kinds, plain, structured}
-use Rattle.lt_model.specs.Schema.{any_bad_name, any_number_fault, any_repeated, bad_default, bad_default_of, bad_name, bad_number, column_reused, default_again, default_given, duplicate_name, is_key_changed, is_mismatch, is_too_deep, key_changed, kind_changed, over_limit, reused_column, table_mismatch, too_deep, too_many, version_not_next, Catalogue, Column, IsCatalogue, Registered, SchemaFault, SchemaVersion, Table, after_adding, after_retiring, bare, carrier, change_at, changed_kind, clash, column_number_fault, column_numbered, field_numbers, first_of, joined, joined_all, kinds_given, live_version, new_table, nothing_yet, number_fault, number_fault_in, number_fault_within, numbers_fault, registered, retired_version, schema_fault, table_numbered, versions_of, when, with_retired, with_version, without_version}
+use Rattle.lt_model.specs.Schema.{any_number_fault, bad_number, column_reused, is_too_deep, kind_changed, reused_column, too_deep, Catalogue, Column, IsCatalogue, Registered, SchemaVersion, Table, after_adding, after_retiring, bare, carrier, change_at, changed_kind, clash, column_number_fault, column_numbered, field_numbers, first_of, joined, joined_all, kinds_given, live_version, new_table, nothing_yet, number_fault, number_fault_in, number_fault_within, numbers_fault, registered, retired_version, schema_fault, table_numbered, versions_of, when, with_retired, with_version, without_version}
 use Rattle.lt_laws.proofs.CarrierLaws.{Within, clash_bare, clash_joined, clash_self, clash_swap, nest_bare, nest_joined, rising_bare, rising_joined, within_bare, within_new, within_old}
 use Rattle.lt_laws.proofs.ConversionLemmas.{are_rising, is_rising}
 use Rattle.lt_laws.proofs.ListFacts.{all_append, all_at, all_both, all_map, any_none, filter_map-append, find_all, find_none, none_mapped}
 use Rattle.lt_laws.proofs.PointLaws.{or_left, or_right, when_none}
+use Rattle.lt_laws.proofs.StoreKinds.{is_numbered, kind_numbered, number_given}
 
 -- ---- the kinds that the versions give a column
 
@@ -68,6 +71,7 @@ joined_carries (k ∷ ks) c f a e =
 pub record FineColumns (r : Registered) : Type 0 where
   pub rise : IsTrue (rises_above 0 (map (λ c. c.number) r.columns))
   pub kinds : AllByRecursion (λ c. IsFineKind c.kind) r.columns
+  pub numbers : AllByRecursion (λ c. IsTrue (is_number c.number) × IsTrue (is_numbered c.kind)) r.columns
 
 pub record IsFineTable (t : Table) : Type 0 where
   pub number : IsTrue (is_number t.number)
@@ -102,6 +106,12 @@ mutual
       and_from _ _ (and_from _ _ (number_none low n (or_left (number_fault low n) (numbers_fault n (field_numbers ks)) e)) (kind_rises k (or_left (number_fault_in k) (number_fault_within ks) d)))
       (kinds_rise ks n (or_right (number_fault low n) (numbers_fault n (field_numbers ks)) e) (or_right (number_fault_in k) (number_fault_within ks) d))
 
+columns_numbered : (low : ℕ) (cs : List Column) → column_number_fault low cs ≡ None → AllByRecursion (λ c. IsTrue (is_number c.number) × IsTrue (is_numbered c.kind)) cs
+columns_numbered low [] e = tt
+columns_numbered low (c ∷ cs) e =
+    let p = first_two (number_fault low c.number) (number_fault_in c.kind) (column_number_fault c.number cs ∷ []) e in
+    (((and_parts (is_number c.number) (nat_lt low c.number) (number_given low c.number p.0)).0, kind_numbered c.kind p.1), columns_numbered c.number cs (or_left (column_number_fault c.number cs) None p.2))
+
 columns_rise : (low : ℕ) (cs : List Column) → column_number_fault low cs ≡ None → IsTrue (rises_above low (map (λ c. c.number) cs)) × AllByRecursion (λ c. IsTrue (is_rising c.kind)) cs
 columns_rise low [] e = (refl, tt)
 columns_rise low (c ∷ cs) e =
@@ -127,35 +137,15 @@ pub record Accepted (cat : Catalogue) (v : SchemaVersion) : Type 0 where
   pub follows : Follows (versions_of cat v.number) v.columns
   pub fresh : reused_column (versions_of cat v.number) v.columns ≡ None
 
-pub all_none : {A : Type 0} (os : List (Option A)) → first_of os ≡ None → AllByRecursion (λ o. o ≡ None) os
-all_none [] e = tt
-all_none (o ∷ os) e = (or_left o (first_of os) e, all_none os (or_right o (first_of os) e))
-
-abbrev faults_of : Catalogue → SchemaVersion → List (Option SchemaFault)
-faults_of cat v =
-    option_map bad_number (any_number_fault v)
-    ∷ option_map bad_name (any_bad_name v)
-    ∷ option_map duplicate_name (any_repeated v)
-    ∷ when (is_too_deep v) too_deep
-    ∷ option_map bad_default (bad_default_of v)
-    ∷ when (is_mismatch cat v) (table_mismatch v.number)
-    ∷ when (not (v.version == length (versions_of cat v.number) + 1)) (version_not_next (length (versions_of cat v.number) + 1))
-    ∷ when (is_key_changed cat v) key_changed
-    ∷ option_map column_reused (reused_column (versions_of cat v.number) v.columns)
-    ∷ option_map kind_changed (changed_kind (versions_of cat v.number) v.columns)
-    ∷ option_map default_given (default_again (versions_of cat v.number) v.columns)
-    ∷ option_map too_many (over_limit (with_version cat v) v)
-    ∷ []
-
 pub accepted : (cat : Catalogue) (v : SchemaVersion) → schema_fault cat v ≡ None → Accepted cat v
-unfolding schema_fault
 accepted cat v e =
-    let a = all_none (faults_of cat v) e in
+    let a = all_faults cat v e in
     let numbers = first_two (number_fault 0 v.number) (when (v.version == 0) (pos 0)) (column_number_fault 0 v.columns ∷ []) (none_mapped bad_number (any_number_fault v) a.0) in
     let rise = columns_rise 0 v.columns (or_left (column_number_fault 0 v.columns) None numbers.2) in
+    let numbered = columns_numbered 0 v.columns (or_left (column_number_fault 0 v.columns) None numbers.2) in
     let flat = nests_low v.columns (when_none (is_too_deep v) too_deep a.1.1.1.0) in record {
       number = (and_parts (is_number v.number) (nat_lt 0 v.number) (not-false (is_number v.number && nat_lt 0 v.number) (when_none _ _ numbers.0))).0;
-      fine = record { rise = rise.0; kinds = all_both (λ (c : Column). IsTrue (is_rising c.kind)) (λ c. nesting c.kind ≤ 4) (λ c. IsFineKind c.kind) v.columns (λ c r n. (r, n)) rise.1 flat };
+      fine = record { rise = rise.0; kinds = all_both (λ (c : Column). IsTrue (is_rising c.kind)) (λ c. nesting c.kind ≤ 4) (λ c. IsFineKind c.kind) v.columns (λ c r n. (r, n)) rise.1 flat; numbers = numbered };
       fresh = none_mapped column_reused (reused_column (versions_of cat v.number) v.columns) a.1.1.1.1.1.1.1.1.0;
       follows = follows (versions_of cat v.number) v.columns (none_mapped kind_changed (changed_kind (versions_of cat v.number) v.columns) a.1.1.1.1.1.1.1.1.1.0);
     }
@@ -210,7 +200,7 @@ same_columns n (r ∷ rs) (suc k) = ap (cons_option (option_map (λ c. c.kind) (
 
 retired_fine : (rs : List Registered) (k : ℕ) → AllByRecursion FineColumns rs → AllByRecursion FineColumns (change_at retired_version k rs)
 retired_fine [] k a = tt
-retired_fine (r ∷ rs) zero a = (record { rise = a.0.rise; kinds = a.0.kinds }, a.1)
+retired_fine (r ∷ rs) zero a = (record { rise = a.0.rise; kinds = a.0.kinds; numbers = a.0.numbers }, a.1)
 retired_fine (r ∷ rs) (suc k) a = (a.0, retired_fine rs k a.1)
 
 table_retired : (b : Bool) (v : ℕ) (t : Table) → IsFineTable t → IsFineTable (cond b (with_retired v t) t)

@@ -22,8 +22,8 @@ use Rattle.lt_laws.proofs.PointLaws.{changes_of-append, point_suffices, or_left,
 use Rattle.lt_laws.proofs.FairLaws.{fair_in_time, key_stays_by}
 use Rattle.lt_codecs.proofs.LogLaws.{frames_prefix_free}
 use Rattle.lt_laws.proofs.RowLemmas.{reads_in_order}
-use Rattle.lt_laws.proofs.SnapshotLaws.{answer_by_rows, snapshot_by_rows}
-use Rattle.lt_model.specs.Laws.{AreKeyed, IsKeyed, PumpLaws, SnapshotLaws}
+use Rattle.lt_laws.proofs.SnapshotLaws.{snapshot_by_rows}
+use Rattle.lt_model.specs.Laws.{AreKeyed, IsKeyed}
 
 -- ---- the changes of a fair list
 
@@ -245,19 +245,21 @@ are_taken feed cat h before (i ∷ items) rest f t =
       stand = (subst (λ (u : ℕ). SuccessorsStand feed h u i) (checkpoint_at h before) t.3, others.stand);
     }
 
--- Items taken behind a front of the stream's front go on as it goes on.
-pub taken_goes_on : (feed : Feed) (cat : Catalogue) (h : Header) (before more items : List Item) (rest : List ℕ) → IsPrefix feed cat h (before ++ more) → Takes feed cat (stream_behind h before) items rest → Front items more
-taken_goes_on feed cat h before more items rest p t =
-    let fair = (fair_front h cat before more p.fair).0 in
-    let a = are_taken feed cat h before items rest fair t in
-    let bytes = stream_bytes feed h.stream in
-    let parted : bytes ≡ (spelled (header_item h) ++ flat_map spelled before) ++ (flat_map spelled more ++ p.rest) = p.spells
+-- Behind some items of a front stand its other items.
+pub behind_spells : (feed : Feed) (cat : Catalogue) (h : Header) (before more : List Item) (p : IsPrefix feed cat h (before ++ more)) → drop (place_after h before) (stream_bytes feed h.stream) ≡ flat_map spelled more ++ p.rest
+behind_spells feed cat h before more p =
+    let parted : stream_bytes feed h.stream ≡ (spelled (header_item h) ++ flat_map spelled before) ++ (flat_map spelled more ++ p.rest) = p.spells
     ∙ ap (λ (x : List ℕ). spelled (header_item h) ++ (x ++ p.rest)) (flat_map-append spelled before more)
     ∙ ap (λ (x : List ℕ). spelled (header_item h) ++ x) (append_assoc (flat_map spelled before) (flat_map spelled more) p.rest)
     ∙ sym (append_assoc (spelled (header_item h)) (flat_map spelled before) (flat_map spelled more ++ p.rest)) in
-    let at : drop (place_after h before) bytes ≡ flat_map spelled more ++ p.rest
-    = ap (drop (place_after h before)) parted ∙ drop_at (spelled (header_item h) ++ flat_map spelled before) (flat_map spelled more ++ p.rest) (place_after h before) (length-append (spelled (header_item h)) (flat_map spelled before)) in
-    begins frames_prefix_free feed cat h before items more rest p.rest a.lawful (all_rest (λ i. IsTrue (is_item h.format i)) before more p.lawful) a.fair a.stand (sym (takes_spells feed cat (stream_behind h before) items rest t) ∙ at) p.longest
+    ap (drop (place_after h before)) parted ∙ drop_at (spelled (header_item h) ++ flat_map spelled before) (flat_map spelled more ++ p.rest) (place_after h before) (length-append (spelled (header_item h)) (flat_map spelled before))
+
+-- Items taken behind a front of the stream's front go on as it goes on.
+pub taken_goes_on : (feed : Feed) (cat : Catalogue) (h : Header) (before more items : List Item) (rest : List ℕ) → IsPrefix feed cat h (before ++ more) → Takes feed cat (stream_behind h before) items rest → Front items more
+taken_goes_on feed cat h before more items rest p t =
+    let a = are_taken feed cat h before items rest (fair_front h cat before more p.fair).0 t in
+    begins frames_prefix_free feed cat h before items more rest p.rest a.lawful (all_rest (λ i. IsTrue (is_item h.format i)) before more p.lawful) a.fair a.stand
+    (sym (takes_spells feed cat (stream_behind h before) items rest t) ∙ behind_spells feed cat h before more p) p.longest
 
 -- What is taken from behind the header on is a front of the stream's front.
 pub taken_is_front : (feed : Feed) (cat : Catalogue) (h : Header) (items front : List Item) (rest : List ℕ) → IsPrefix feed cat h front → Takes feed cat (behind_header h) items rest → Front items front
@@ -330,24 +332,3 @@ streams_moved n items (a ∷ ss) =
 -- the stream of the items stands behind them
 pub stream_moved : (n : ℕ) (items : List Item) (s : State) → stream_at (with_items n items s) n ≡ option_map (moved_by items) (stream_at s n)
 stream_moved n items s = streams_moved n items s.streams
-
--- ---- all of these
-
-pub pump_laws : PumpLaws
-pump_laws = record {
-  front = taken_is_front;
-  goes_on = takes_append;
-  moved = moved_append;
-  left = with_items_append;
-  grows = takes_grow;
-}
-
-pub snapshot_laws : SnapshotLaws
-snapshot_laws = record {
-  keyed = source_keyed;
-  by_rows = snapshot_by_rows;
-  answers = answer_by_rows;
-  safe_row = safe_row;
-  safe_snapshot = safe_snapshot;
-  in_order = row_in_order;
-}

@@ -68,7 +68,7 @@ any_push p (x ∷ xs) y h = elim (or_cases (p x) (list_any p (xs ++ y ∷ [])) h
   | inr e ↦ elim (any_push p xs y e) [ inl i ↦ inl (or_right (p x) (list_any p xs) i) | inr i ↦ inr i ]
 ]
 
-any_front : {A : Type 0} (p : A → Bool) (xs ys : List A) → list_any p xs ≡ true → list_any p (xs ++ ys) ≡ true
+pub any_front : {A : Type 0} (p : A → Bool) (xs ys : List A) → list_any p xs ≡ true → list_any p (xs ++ ys) ≡ true
 any_front p [] ys h = absurd (false≢true h)
 any_front p (x ∷ xs) ys h = elim (or_cases (p x) (list_any p xs) h) [ inl e ↦ or_left (p x) (list_any p (xs ++ ys)) e | inr e ↦ or_right (p x) (list_any p (xs ++ ys)) (any_front p xs ys e) ]
 
@@ -196,7 +196,7 @@ last_lives _ nothing_yet = tt
 last_lives _ (after_adding cat v is e) = lives_added v cat (last_lives cat is)
 last_lives _ (after_retiring cat number v is e) = lasts_retired v number cat cat (λ t h k. retired_early cat v t (numbered_held cat t (numbers_rise cat is) h) (ap (λ (n : ℕ). retire_fault cat n v) k ∙ e)) (last_lives cat is)
 
--- ---- a catalogue that grew by one step
+-- ---- a catalogue that grew
 
 pub record Grew (cat wide : Catalogue) : Type 0 where
   pub lawful : IsCatalogue cat
@@ -204,7 +204,7 @@ pub record Grew (cat wide : Catalogue) : Type 0 where
   pub after : IsCatalogue wide
   pub tables : (n : ℕ) (t : Table) → table_numbered cat n ≡ Some t → (u : Table) × (table_numbered wide n ≡ Some u) × Widens t u
 
-widens_where : (b : Bool) (v : ℕ) (t : Table) → Widens t (cond b (with_retired v t) t)
+pub widens_where : (b : Bool) (v : ℕ) (t : Table) → Widens t (cond b (with_retired v t) t)
 widens_where true v t = widens_retired t v
 widens_where false v t = widens_itself t
 
@@ -217,7 +217,7 @@ grew_retired cat number v is e = record {
 }
 
 -- the table of a number, with the version where it is the version's
-abbrev with_added : SchemaVersion → Table → Table
+abbrev pub with_added : SchemaVersion → Table → Table
 with_added v t = if t.number == v.number then with_columns t v.columns else t
 
 pub its_number : (ts : Catalogue) (n : ℕ) (t : Table) → table_numbered ts n ≡ Some t → t.number ≡ n
@@ -254,7 +254,7 @@ found_added_by v u ts n t false true e g r f ih =
     ap (λ (c : Bool). cond c (Some (new_table v)) (table_numbered (u ∷ ts) n)) (ne_eqb v.number n (λ x. absurd (omega (arith, x, past)))) ∙ f ∙ ap Some (sym (other_added v t (λ q. absurd (omega (arith, q, k, past)))))
 found_added_by v u ts n t false false e g r f ih = at_later v u ts n t (u.number == n) refl e f ih
 
-found_added : (v : SchemaVersion) (cat : Catalogue) (n : ℕ) (t : Table) → NumbersRise cat → table_numbered cat n ≡ Some t → table_numbered (with_version cat v) n ≡ Some (with_added v t)
+pub found_added : (v : SchemaVersion) (cat : Catalogue) (n : ℕ) (t : Table) → NumbersRise cat → table_numbered cat n ≡ Some t → table_numbered (with_version cat v) n ≡ Some (with_added v t)
 found_added v [] n t r f = cc
 found_added v (u ∷ ts) n t r f = found_added_by v u ts n t (u.number == v.number) (nat_lt v.number u.number) refl refl r f (found_added v ts n t r.1)
 
@@ -278,3 +278,27 @@ grew_added cat v is e = let a = accepted cat v e in record {
         (all_at LastLive cat t (last_lives cat is) (find_held (λ t. t.number == n) cat t f).0),
   );
 }
+
+-- in any number of steps
+
+widens_then : (t u w : Table) → Widens t u → Widens u w → Widens t w
+widens_then t u w a b = record {
+  number = b.number ∙ a.number;
+  key = b.key ∙ a.key;
+  live = λ n h l. a.live n h (b.live n (a.stays n h) l);
+  stays = λ n h. b.stays n (a.stays n h);
+  carrier = λ n k e.
+      let x = a.carrier n k e in
+      let y = b.carrier n x.0 x.1 in
+      (y.0, y.1, λ path m f. let i = x.2 path m f in let j = y.2 path i.0 i.1 in (j.0, j.1, omega (arith, i.2, j.2), j.3 ∙ i.3));
+}
+
+tables_then : (cat mid wide : Catalogue) (n : ℕ) (t : Table) → Grew cat mid → Grew mid wide → table_numbered cat n ≡ Some t → (u : Table) × (table_numbered wide n ≡ Some u) × Widens t u
+tables_then cat mid wide n t g h f = let x = g.tables n t f in let y = h.tables n x.0 x.1 in (y.0, y.1, widens_then t x.0 y.0 x.2 y.2)
+
+pub grew : (cat wide : Catalogue) → IsCatalogue cat → Became cat wide → Grew cat wide
+grew cat _ is as_it_was = record { lawful = is; became = as_it_was; after = is; tables = λ n t f. (t, f, widens_itself t) }
+grew cat _ is (then_added c v b e) = let g = grew cat c is b in let h = grew_added c v g.after e in
+    record { lawful = is; became = then_added c v b e; after = h.after; tables = λ n t f. tables_then cat c (with_version c v) n t g h f }
+grew cat _ is (then_retired c number v b e) = let g = grew cat c is b in let h = grew_retired c number v g.after e in
+    record { lawful = is; became = then_retired c number v b e; after = h.after; tables = λ n t f. tables_then cat c (without_version c number v) n t g h f }

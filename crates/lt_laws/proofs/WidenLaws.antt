@@ -110,7 +110,7 @@ lacks_along (n ∷ q) k v e h = lacks_by n q k v (kind_at n (kinds_of k)) refl e
 
 -- ---- a value within a leaf's rank, at that rank
 
-lies_shape : (r : Rank) (u : Value) → IsTrue (lies_within u (plain r)) → IsTrue (has_shape (at_rank r u) (plain r))
+pub lies_shape : (r : Rank) (u : Value) → IsTrue (lies_within u (plain r)) → IsTrue (has_shape (at_rank r u) (plain r))
 lies_shape r null_value h = subst (λ (v : Value). IsTrue (has_shape v (plain r))) (sym (at_rank-null r)) refl
 lies_shape r (bool_value b) h = subst (λ (v : Value). IsTrue (has_shape v (plain r))) (step_bool b r) (int_shape r _ (bit_fits b))
 lies_shape r (int_value z) h = int_shape r z (and_parts (fits_64 z) _ h).0
@@ -174,7 +174,7 @@ presence_bool [] (enumeration names) m e t = let d : (rank.Int32, false) ≡ m =
 presence_bool [] (structured ks) m e t = let d : (rank.Bool, true) ≡ m = cc in ap (λ (x : Mark). x.0) (sym d)
 presence_bool (n ∷ q) k m e t = let j = next_kind q m (kind_at n (kinds_of k)) e in presence_bool q j.0 m j.2 t
 
-bool_to : (x : Bool) → cell_to rank.Bool rank.Bool (bool_cell x) ≡ bool_cell x
+pub bool_to : (x : Bool) → cell_to rank.Bool rank.Bool (bool_cell x) ≡ bool_cell x
 unfolding cell_to at_rank
 bool_to x = refl
 

@@ -66,7 +66,7 @@ sound_sets cat t c is e s =
 
 -- ---- settings and changes go over
 
-carried_as : (cat : Catalogue) (n : ℕ) (t : Table) (set : List (ℕ × Value)) → table_numbered cat n ≡ Some t → map (carried cat n) set ≡ map (λ s. (s.0, at_carrier t s.0 s.1)) set
+pub carried_as : (cat : Catalogue) (n : ℕ) (t : Table) (set : List (ℕ × Value)) → table_numbered cat n ≡ Some t → map (carried cat n) set ≡ map (λ s. (s.0, at_carrier t s.0 s.1)) set
 carried_as cat n t set e = ap (λ (o : Option Table). map (λ (s : ℕ × Value). let x : ℕ × Value = (s.0, option_map_or (conv s.1) (option_and_then (λ t. carrier t s.0) o) s.1) in x) set) e
 
 pub settings_go : (cat wide : Catalogue) (n : ℕ) (t : Table) (set : List (ℕ × Value)) → Grew cat wide → table_numbered cat n ≡ Some t → AllByRecursion (IsSetIn t) set

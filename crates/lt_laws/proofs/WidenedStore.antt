@@ -89,7 +89,7 @@ same_truths true b h = sym h
 same_truths false true h = h
 same_truths false false h = refl
 
-lawful_fit : (ls : List Leaf) (cells : List Cell) → IsTrue (are_lawful ls cells) → AreFit (with_cells ls cells)
+pub lawful_fit : (ls : List Leaf) (cells : List Cell) → IsTrue (are_lawful ls cells) → AreFit (with_cells ls cells)
 lawful_fit ls cells h =
     let both = with_cells ls cells in
     let p = and_parts ((length ls == length cells) && list_all (λ c. suits c.0 c.1) both) (list_all (λ a. list_all (agree a) both) both) h in
@@ -102,14 +102,14 @@ lawful_fit ls cells h =
       ranks = λ a i. suits_rank a.0.column a.0.path a.0.rank a.0.presence a.1 (all_at (λ c. IsTrue (suits c.0 c.1)) both a fit i);
     }
 
-in_layout : (ls : List Leaf) (cells : List Cell) (a : Leaf × Cell) → Contains (with_cells ls cells) a → Contains ls a.0
+pub in_layout : (ls : List Leaf) (cells : List Cell) (a : Leaf × Cell) → Contains (with_cells ls cells) a → Contains ls a.0
 in_layout [] cells a h = absurd (omega (arith, h.1))
 in_layout (l ∷ ls) [] a h = absurd (omega (arith, h.1))
 in_layout (l ∷ ls) (c ∷ cells) a (zero, n, e) = (zero, omega arith, ap (λ (x : Leaf × Cell). x.0) e)
 in_layout (l ∷ ls) (c ∷ cells) a (suc k, n, e) = let r = in_layout ls cells a (k, omega (arith, n), e) in (suc r.0, omega (arith, r.1), r.2)
 
 -- a leaf of the wider carriers is served by the older ones
-served : (cat : Catalogue) (n : ℕ) (t u : Table) (from : List Leaf) (cells : List Cell) (b : Leaf) → IsFineTable t → table_numbered cat n ≡ Some t → Widens t u → IsTrue (is_covered cat n from) → leaf_in (cols u) b.column b.path ≡ Some (b.rank, b.presence) → IsServed (with_cells from cells) (cols t) b
+pub served : (cat : Catalogue) (n : ℕ) (t u : Table) (from : List Leaf) (cells : List Cell) (b : Leaf) → IsFineTable t → table_numbered cat n ≡ Some t → Widens t u → IsTrue (is_covered cat n from) → leaf_in (cols u) b.column b.path ≡ Some (b.rank, b.presence) → IsServed (with_cells from cells) (cols t) b
 served cat n t u from cells b fine e w c m =
     let k : t.number ≡ n = its_number cat n t e in
     let l = leaf_in_cols u b m in (
@@ -160,7 +160,7 @@ delta_goes_by cat wide n x (Some d) e g a =
 pub delta_goes : (cat wide : Catalogue) (n : ℕ) (x : Delta) → Grew cat wide → AreLawfulTables cat x → carried_versions wide n x ≡ coerce_all (carriers cat n) (carriers wide n) (carried_versions cat n x)
 delta_goes cat wide n x g a = delta_goes_by cat wide n x (table_of x n) refl g a
 
-deltas_go : (cat wide : Catalogue) (n : ℕ) (xs : List Delta) → Grew cat wide → AllByRecursion (AreLawfulTables cat) xs → map (carried_versions wide n) xs ≡ map (coerce_all (carriers cat n) (carriers wide n)) (map (carried_versions cat n) xs)
+pub deltas_go : (cat wide : Catalogue) (n : ℕ) (xs : List Delta) → Grew cat wide → AllByRecursion (AreLawfulTables cat) xs → map (carried_versions wide n) xs ≡ map (coerce_all (carriers cat n) (carriers wide n)) (map (carried_versions cat n) xs)
 deltas_go cat wide n [] g a = refl
 deltas_go cat wide n (x ∷ xs) g a = ap₂ (λ (v : List RowVersion) (vs : List (List RowVersion)). v ∷ vs) (delta_goes cat wide n x g a.0) (deltas_go cat wide n xs g a.1)
 

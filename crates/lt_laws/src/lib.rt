@@ -1,13 +1,16 @@
-//! The laws of the definitions that all other proofs cite: conversion, rows, fair streams, version lists, the machine.
+//! The laws of the definitions that all other proofs cite: conversion, rows, schema texts, fair streams, version lists, the machine.
 //!
 //! Each function here has an empty body: its contract is a law over the definitions, for all values.
 #![tactic(auto)]
 
 ghost use Rattle.lt_model.specs.Claims.{WholeClaims};
 ghost use Rattle.lt_model.specs.Fair.{PointSuffices};
-ghost use Rattle.lt_model.specs.Laws.{ConversionLaws, FlattensBack, FrontLaws, ListLaws, PumpLaws, ShelfStays, SnapshotLaws, VersionLaws};
+ghost use Rattle.lt_model.specs.Laws.{ConversionLaws, FaultKeeps, FlattensBack, FrontLaws, GrowsLaws, LayoutLaws, ListLaws, MachineLaws, PumpLaws, SessionIsReached, SnapshotLaws, VersionLaws};
+ghost use Rattle.lt_model.specs.Outside.{HeldScans, UnrefusedAsks};
 ghost use Rattle.lt_model.specs.Row.{ReadsInOrder};
-ghost use Rattle.lt_model.specs.Sound.{GrowthKeeps, OpeningIsGood, ScanIsSnapshot, SoundGrows};
+ghost use Rattle.lt_model.specs.SchemaText.{TextReadsBack};
+ghost use Rattle.lt_model.specs.Sound.{GrowthKeeps, OpeningIsGood, ScanIsSnapshot, SoundGrows, StepKeeps};
+ghost use Rattle.lt_model.specs.Store.{HoldsLawful, HoldsOne};
 ghost use Rattle.lt_model.specs.Version.{ComposeLaws};
 
 /// A value read by way of a carrier is the value read at once, and what went up a kind comes down as it was.
@@ -18,6 +21,11 @@ pub fn conversion_laws()
 /// What was set reads back from a row's cells.
 pub fn flattens_back()
     ensures { FlattensBack }
+{}
+
+/// By way of a layout between two, cells are as at once; so deltas go over to the carriers of a longer catalogue; carriers are a layout.
+pub fn layout_laws()
+    ensures { LayoutLaws }
 {}
 
 /// Two versions of one key, one after the other, are as their composition.
@@ -45,7 +53,7 @@ pub fn rows_read_in_order()
     ensures { ReadsInOrder }
 {}
 
-/// Snapshots and answers go by the rows alone, and nothing that follows a checkpoint changes those up to it.
+/// Snapshots and answers go by the rows alone; nothing that follows a checkpoint, and no longer catalogue, changes those up to it.
 pub fn snapshot_laws()
     ensures { SnapshotLaws }
 {}
@@ -55,12 +63,17 @@ pub fn point_suffices()
     ensures { PointSuffices }
 {}
 
-/// Each stream has one front, which a longer feed and a longer catalogue only lengthen.
+/// A feed grows to itself, and growing twice is growing.
+pub fn grows_laws()
+    ensures { GrowsLaws }
+{}
+
+/// Each stream has one front, which a longer feed and a longer catalogue only lengthen, and each feed whose headers tile has its fronts.
 pub fn front_laws()
     ensures { FrontLaws }
 {}
 
-/// What pumps take, one after the other, is a front of the stream's front.
+/// What a pump takes from where a stream stands is what its front has next, and all of it where what stands next stops the pump.
 pub fn pump_laws()
     ensures { PumpLaws }
 {}
@@ -70,7 +83,7 @@ pub fn opening_is_good()
     ensures { OpeningIsGood }
 {}
 
-/// A longer feed keeps a good session, and changes no answer up to a safe moment.
+/// A longer feed keeps a good session, and neither it nor a longer catalogue changes an answer up to a safe moment.
 pub fn growth_keeps()
     ensures { GrowthKeeps }
 {}
@@ -85,7 +98,47 @@ pub fn scan_is_snapshot()
     ensures { ScanIsSnapshot }
 {}
 
-/// Each command that leaves the shelf as it is keeps a good session.
-pub fn shelf_stays()
-    ensures { ShelfStays }
+/// In a session that belongs to a feed, a scan of the store and of memory in the window answers over the source's snapshot.
+pub fn held_scans()
+    ensures { HeldScans }
+{}
+
+/// A scan or page that the state does not refuse asks in the window.
+pub fn unrefused_asks()
+    ensures { UnrefusedAsks }
+{}
+
+/// A step of a good session, broken or not, leaves a good session.
+pub fn step_keeps()
+    ensures { StepKeeps }
+{}
+
+/// A fault in place of an answer leaves a good session.
+pub fn fault_keeps()
+    ensures { FaultKeeps }
+{}
+
+/// The laws of rows, streams, snapshots, steps, faults and scans in one.
+pub fn machine_laws()
+    ensures { MachineLaws }
+{}
+
+/// From a fresh store a schema, a pump and a flush reach a good session with a delta on its shelf.
+pub fn a_session_is_reached()
+    ensures { SessionIsReached }
+{}
+
+/// A durable part that an image holds is lawful.
+pub fn holds_lawful()
+    ensures { HoldsLawful }
+{}
+
+/// An image holds at most one durable part.
+pub fn holds_one()
+    ensures { HoldsOne }
+{}
+
+/// A version's schema text, as it is written, reads back as the version.
+pub fn written_texts_read_back()
+    ensures { TextReadsBack }
 {}

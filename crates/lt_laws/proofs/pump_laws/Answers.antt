@@ -1,4 +1,4 @@
-use Rattle.lt_laws.proofs.TakenLaws.{pump_laws}
+use Rattle.lt_laws.proofs.StopLaws.{pump_laws}
 use Rattle.lt_laws.proofs.pump_laws.Goals as goal
 
 pub returns : goal.returns

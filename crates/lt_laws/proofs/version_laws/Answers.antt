@@ -1,4 +1,4 @@
-use Rattle.lt_laws.proofs.ListLaws.{version_laws}
+use Rattle.lt_laws.proofs.VersionLaws.{version_laws}
 use Rattle.lt_laws.proofs.version_laws.Goals as goal
 
 pub returns : goal.returns
