@@ -2,4 +2,5 @@ pub mod View
 pub mod Reading
 pub mod Keys
 pub mod KeyCodec
+pub mod Messages
 pub mod formers

@@ -9,6 +9,11 @@ use std::fmt;
 pub struct Memory;
 
 impl fmt::Display for Memory {
+    ghost use Rattle.std.specs.Prelude.{Some};
+    ghost use Rattle.lt_core.specs.Messages.{out_of_memory};
+
+    ghost output = { λ _. Some out_of_memory };
+
     fn fmt<W: fmt::Write>(&self, f: &mut fmt::Formatter<W>) -> fmt::Result {
         f.write_str("out of memory")
     }

@@ -15,6 +15,10 @@ use std::marker::Model;
 pub struct Short;
 
 impl fmt::Display for Short {
+    ghost use Rattle.std.specs.Prelude.{Some, codes};
+
+    ghost output = { λ _. Some (codes "too few bytes are left") };
+
     fn fmt<W: fmt::Write>(&self, f: &mut fmt::Formatter<W>) -> fmt::Result {
         f.write_str("too few bytes are left")
     }

@@ -17,6 +17,11 @@ use std::marker::Model;
 pub struct NotUtf8;
 
 impl fmt::Display for NotUtf8 {
+    ghost use Rattle.std.specs.Prelude.{Some};
+    ghost use Rattle.lt_core.specs.Messages.{not_utf8};
+
+    ghost output = { λ _. Some not_utf8 };
+
     fn fmt<W: fmt::Write>(&self, f: &mut fmt::Formatter<W>) -> fmt::Result {
         f.write_str("not UTF-8")
     }
@@ -32,6 +37,11 @@ pub enum TextRefusal {
 }
 
 impl fmt::Display for TextRefusal {
+    ghost use Rattle.std.specs.Prelude.{Some};
+    ghost use Rattle.lt_core.specs.Messages.{text_message};
+
+    ghost output = { λ e. Some (text_message e) };
+
     fn fmt<W: fmt::Write>(&self, f: &mut fmt::Formatter<W>) -> fmt::Result {
         match self {
             TextRefusal::NotUtf8 => write!(f, "{NotUtf8}"),
@@ -147,6 +157,10 @@ impl Text {
 }
 
 impl fmt::Display for Text {
+    ghost use Rattle.std.specs.Prelude.{Some};
+
+    ghost output = { λ t. Some t };
+
     fn fmt<W: fmt::Write>(&self, f: &mut fmt::Formatter<W>) -> fmt::Result {
         f.write_str(self.as_str())
     }

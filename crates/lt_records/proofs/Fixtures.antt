@@ -7,14 +7,16 @@ use Rattle.lt_model.specs.Log.{is_content, is_log_value}
 use Rattle.lt_core.specs.View.{view_value}
 use Rattle.lt_core.specs.declared.key.KeyPart.TheVariants as key_part
 use Rattle.lt_core.specs.declared.value.Value as code
+use Rattle.lt_core.specs.declared.value.Value.TheVariants as values
+use Rattle.lt_core.proofs.ViewLaws.{view_int}
 use Rattle.lt_records.specs.declared.record.ChangeRecord.{ChangeRecord}
 use Rattle.lt_records.specs.declared.record.LogRecord.TheVariants as records
 use Rattle.lt_records.specs.View.{view_item}
 
--- an insert of one column is lawful where its value is
-pub one_column : (c : ChangeRecord) (v : code.Value) → c.ts ≡ 5 → c.table ≡ 1 → c.version ≡ 1 → c.op ≡ ops.Insert → c.key ≡ key_part.Int (pos 1) ∷ [] → c.set ≡ (1, v) ∷ [] → IsTrue (is_log_value (view_value v)) → IsTrue (is_content format.One (view_item (records.Change c)))
-one_column c v ts table version op key set lawful =
-    let made : ChangeRecord = record { ts = 5; table = 1; version = 1; op = ops.Insert; key = key_part.Int (pos 1) ∷ []; set = (1, v) ∷ [] } in
+-- an insert of 10 and a value is lawful where the value is
+pub ten_and_a_value : (c : ChangeRecord) (v : code.Value) → c.ts ≡ 5 → c.table ≡ 1 → c.version ≡ 1 → c.op ≡ ops.Insert → c.key ≡ key_part.Int (pos 1) ∷ [] → c.set ≡ (1, values.Int (pos 10)) ∷ (2, v) ∷ [] → IsTrue (is_log_value (view_value v)) → IsTrue (is_content format.One (view_item (records.Change c)))
+ten_and_a_value c v ts table version op key set lawful =
+    let made : ChangeRecord = record { ts = 5; table = 1; version = 1; op = ops.Insert; key = key_part.Int (pos 1) ∷ []; set = (1, values.Int (pos 10)) ∷ (2, v) ∷ [] } in
     let same : c ≡ made = λ i. record { ts = ts i; table = table i; version = version i; op = op i; key = key i; set = set i } in
-    let last : IsTrue (is_content format.One (view_item (records.Change made))) = rw lawful refl in
+    let last : IsTrue (is_content format.One (view_item (records.Change made))) = rw (view_int (pos 10), lawful) refl in
     subst (λ r. IsTrue (is_content format.One (view_item (records.Change r)))) (sym same) last

@@ -13,7 +13,8 @@ use Rattle.lt_model.specs.Value.{Value, is_number, are_fields, bool_value, field
 use Rattle.lt_codecs.specs.Codec.{OptionalLawful, bytes16, optional, bytes32, i64, u16, u32, u64, u8}
 use Rattle.lt_codecs.specs.LogCodec.{change_parts, log_value, part, settings, value}
 use Rattle.lt_codecs.proofs.ItemCodecs.{change_spells, high_spells, small_kind}
-use Rattle.lt_codecs.proofs.LogLaws.{IsShort, change_fits, few_fields, first, header_is, is_setting, second, together}
+use Rattle.lt_codecs.proofs.LogLaws.{IsShort, change_fits, few_fields, first, header_is, is_setting, second}
+use Rattle.std.proofs.lemmas.Bool.{and_from as together}
 use Rattle.lt_codecs.proofs.ValueCodecs.{fields_bytes, fields_come, list_again}
 use Rattle.lt_codecs.proofs.ValueCodecs.{AreSettings as AreSpelled}
 use Rattle.lt_core.specs.declared.key.KeyPart.{KeyPart}

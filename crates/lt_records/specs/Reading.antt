@@ -2,7 +2,9 @@
 use Rattle.std.specs.Prelude.{List, None, Option, Some, ℕ, ◌≡◌}
 use Rattle.std.specs.declared.result.Result.{Result}
 use Rattle.std.specs.declared.result.Result.TheVariants.{Err, Ok}
-use Rattle.lt_model.specs.Log.{HasNoValue}
+use Rattle.lt_model.specs.declared.Format.TheVariants as format
+use Rattle.lt_model.specs.Value.{Value}
+use Rattle.lt_model.specs.Log.{Found, HasNoValue, IsFound, IsValueFront}
 use Rattle.lt_records.specs.declared.refusal.ValueRefusal.{ValueRefusal}
 use Rattle.lt_records.specs.declared.refusal.ValueRefusal.TheVariants as refusals
 use Rattle.lt_records.specs.declared.reading.fault.Stop.{Stop}
@@ -32,3 +34,11 @@ refusal_of stops.Memory = refusals.Memory
 abbrev pub ValueRefused : List ℕ → ValueRefusal → Type 0
 ValueRefused bytes refusals.NotAValue = HasNoValue bytes
 ValueRefused bytes refusals.Memory = Unit {0}
+
+-- no other value stands at the front
+abbrev pub NoOtherValue : List ℕ → Value → Type 0
+NoOtherValue bytes v = (other : Value) (n : ℕ) → IsValueFront bytes other n → other ≡ v
+
+-- nothing else stands at the front
+abbrev pub NothingElse : List ℕ → Found → Type 0
+NothingElse bytes found = (other : Found) → IsFound format.One bytes other → other ≡ found

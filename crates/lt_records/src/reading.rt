@@ -3,13 +3,14 @@
 ghost use Rattle.std.specs.Prelude.{◌≡◌, ◌-◌, drop, length, IfOk, IfErr, OnOk, OnErr};
 ghost use Rattle.lt_model.specs.Log.{IsValueFront};
 ghost use Rattle.lt_core.specs.View.{view_value};
-ghost use Rattle.lt_records.specs.Reading.{ValueRefused};
+ghost use Rattle.lt_records.specs.Reading.{NoOtherValue, ValueRefused};
 
 mod change;
 pub mod fault;
 mod field;
 mod frame;
 mod header;
+mod key_length;
 mod value;
 
 use crate::reading::value::{MAX_DEPTH, value_at};
@@ -22,6 +23,7 @@ use std::alloc::Global;
 /// Takes one value from the front of what is left. `NotAValue` exactly where no value stands there. An `Err` takes nothing.
 pub fn read_value(alloc: Global, from: &mut Reader<'_>) -> Result<Value, ValueRefusal>
     ensures value { IfOk result (λ v. IsValueFront from.old (view_value v) (length from.old - length from.new)) }
+    ensures only { IfOk result (λ v. NoOtherValue from.old (view_value v)) }
     ensures rest { OnOk result (from.new ≡ drop (length from.old - length from.new) from.old) }
     ensures refused { IfErr result (ValueRefused from.old) }
     ensures unchanged { OnErr result (from.new ≡ from.old) }
@@ -54,6 +56,7 @@ fn all_left<'a>(from: &mut Reader<'a>) -> &'a [u8]
 /// The value at the front of bytes, and what is behind it.
 fn value_of<'a>(alloc: Global, bytes: &'a [u8]) -> Result<(Value, Reader<'a>), ValueRefusal>
     ensures value { IfOk result (λ x. IsValueFront bytes.now (view_value x.0) (length bytes.now - length x.1)) }
+    ensures only { IfOk result (λ x. NoOtherValue bytes.now (view_value x.0)) }
     ensures rest { IfOk result (λ x. x.1 ≡ drop (length bytes.now - length x.1) bytes.now) }
     ensures refused { IfErr result (ValueRefused bytes.now) }
 {

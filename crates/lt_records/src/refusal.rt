@@ -26,6 +26,11 @@ pub enum ValueRefusal {
 }
 
 impl fmt::Display for WriteRefusal {
+    ghost use Rattle.std.specs.Prelude.{Some};
+    ghost use Rattle.lt_records.specs.Messages.{write_message};
+
+    ghost output = { λ e. Some (write_message e) };
+
     fn fmt<W: fmt::Write>(&self, f: &mut fmt::Formatter<W>) -> fmt::Result {
         match self {
             WriteRefusal::TooLong { len } => write!(f, "a body of {len} bytes"),
@@ -37,6 +42,11 @@ impl fmt::Display for WriteRefusal {
 impl Error for WriteRefusal {}
 
 impl fmt::Display for ValueRefusal {
+    ghost use Rattle.std.specs.Prelude.{Some};
+    ghost use Rattle.lt_records.specs.Messages.{value_message};
+
+    ghost output = { λ e. Some (value_message e) };
+
     fn fmt<W: fmt::Write>(&self, f: &mut fmt::Formatter<W>) -> fmt::Result {
         match self {
             ValueRefusal::NotAValue => f.write_str("no value"),

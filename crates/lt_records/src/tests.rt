@@ -2,9 +2,9 @@
 
 ghost use Rattle.std.specs.Prelude.{IfOk, IsTrue};
 ghost use Rattle.lt_model.specs.declared.Format.TheVariants as format;
-ghost use Rattle.lt_model.specs.Log.{is_content, is_log_value};
+ghost use Rattle.lt_model.specs.Log.{is_content, is_header, is_log_value};
 ghost use Rattle.lt_core.specs.View.{view_value};
-ghost use Rattle.lt_records.specs.View.{view_item};
+ghost use Rattle.lt_records.specs.View.{view_header, view_item};
 
 use crate::*;
 use lt_core::{Blob, KeyBytes, KeyPart, List, Memory, Op, Range, Reader, Text, Value, Writer};
@@ -25,22 +25,30 @@ const INSERT: [u8; 53] = [
 /// The checkpoint 7.
 const CHECKPOINT_7: [u8; 13] = [3, 0, 0, 0, 8, 0, 0, 0, 0, 0, 0, 0, 7];
 
-fn head(alloc: Global) -> LogRecord {
-    LogRecord::Header(StreamHeader {
+/// The header of stream 0, with no bounds.
+fn head(alloc: Global) -> StreamHeader
+    ensures { IsTrue (is_header format.One (view_header result)) }
+{
+    StreamHeader {
         stream: 0,
         range: Range {
             low: List::new(alloc),
             high: None,
         },
-    })
+    }
 }
 
-fn insert(alloc: Global) -> Result<LogRecord, Fail> {
+/// The insert at 5 of the key 1, with 10 and a value.
+#[tactic(auto, using(crate::proofs::Fixtures::ten_and_a_value))]
+fn insert(alloc: Global, value: Value) -> Result<LogRecord, Memory>
+    requires { IsTrue (is_log_value (view_value value)) }
+    ensures { IfOk result (λ r. IsTrue (is_content format.One (view_item r))) }
+{
     let mut key = List::new(alloc);
     key.push(KeyPart::Int(1))?;
     let mut set = List::new(alloc);
     set.push((1, Value::Int(10)))?;
-    set.push((2, Value::Text(Text::from_slice(alloc, b"x")?)))?;
+    set.push((2, value))?;
     Ok(LogRecord::Change(ChangeRecord {
         ts: 5,
         table: 1,
@@ -51,42 +59,50 @@ fn insert(alloc: Global) -> Result<LogRecord, Fail> {
     }))
 }
 
-/// What the first frame spells, written again.
+/// The text "x".
+fn text_x(alloc: Global) -> Result<Value, Fail>
+    ensures { IfOk result (λ v. IsTrue (is_log_value (view_value v))) }
+{
+    Ok(Value::Text(Text::from_slice(alloc, b"x")?))
+}
+
+/// Whether the item is written as these bytes, and they are read as an item that is written so.
+fn has_frame(alloc: Global, item: &LogRecord, frame: &[u8]) -> Result<bool, Fail>
+    requires { IsTrue (is_content format.One (view_item item.now)) }
+{
+    let written = write(alloc, item)?;
+    Ok(written.as_slice() == frame && is_read(alloc, frame)?)
+}
+
+/// Whether the bytes are a whole frame, whose item is written as they are.
 #[tactic(auto, using(crate::proofs::Front::found_content))]
-fn written_again(alloc: Global, bytes: &[u8]) -> Result<Blob, Fail> {
-    match next(alloc, bytes)? {
-        Found::Whole { item, .. } => Ok(write(alloc, &item)?),
-        _ => Err(Fail::from("no whole frame")),
+fn is_read(alloc: Global, frame: &[u8]) -> Result<bool, Fail> {
+    match next(alloc, frame)? {
+        Found::Whole { item, length } => {
+            Ok(length == frame.len() && write(alloc, &item)?.as_slice() == frame)
+        }
+        _ => Ok(false),
     }
 }
 
 #[test]
-fn worked_frames(rt: HostRuntime) -> Result<(), Fail> {
+fn frame_bytes(rt: HostRuntime) -> Result<(), Fail> {
     let alloc = rt.alloc();
-    let rows: [(&[u8], LogRecord); 3] = [
-        (&HEAD, head(alloc)),
-        (&INSERT, insert(alloc)?),
-        (&CHECKPOINT_7, LogRecord::Checkpoint(7)),
-    ];
-    for (bytes, item) in rows {
-        let wanted = format!(in alloc;
-            "{:?}",
-            Found::Whole {
-                item,
-                length: bytes.len()
-            }
-        )?;
-        let found = format!(in alloc; "{:?}", next(alloc, bytes)?)?;
-        assert_eq!(rt; found.as_str(), wanted.as_str());
-        assert_eq!(rt; written_again(alloc, bytes)?.as_slice(), bytes);
-        let mut longer = Blob::from_slice(alloc, bytes)?;
-        longer.push(7)?;
-        let found = format!(in alloc; "{:?}", next(alloc, longer.as_slice())?)?;
-        assert_eq!(rt; found.as_str(), wanted.as_str());
-        for length in 0..bytes.len() {
+    let header = head(alloc).copy()?;
+    assert!(rt; has_frame(alloc, &LogRecord::Header(header), &HEAD)?);
+    assert!(rt; has_frame(alloc, &insert(alloc, text_x(alloc)?)?, &INSERT)?);
+    assert!(rt; has_frame(alloc, &LogRecord::Checkpoint(7), &CHECKPOINT_7)?);
+    Ok(())
+}
+
+#[test]
+fn every_cut_is_partial(rt: HostRuntime) -> Result<(), Fail> {
+    let alloc = rt.alloc();
+    for frame in [HEAD.as_slice(), &INSERT, &CHECKPOINT_7] {
+        for length in 0..frame.len() {
             assert!(rt;
-                matches!(next(alloc, &bytes[..length])?, Found::Partial),
-                "{length} bytes of {wanted}"
+                matches!(next(alloc, &frame[..length])?, Found::Partial),
+                "{length} bytes"
             );
         }
     }
@@ -102,7 +118,7 @@ fn why(alloc: Global, bytes: &[u8]) -> Result<Option<BadFrame>, Fail> {
 }
 
 #[test]
-fn kinds_and_lengths(rt: HostRuntime) -> Result<(), Fail> {
+fn malformed_heads(rt: HostRuntime) -> Result<(), Fail> {
     let alloc = rt.alloc();
     let rows: [(&[u8], Option<BadFrame>); 8] = [
         (&[7], Some(BadFrame::Kind(7))),
@@ -118,53 +134,72 @@ fn kinds_and_lengths(rt: HostRuntime) -> Result<(), Fail> {
         (&[3, 0, 0, 0, 0], Some(BadFrame::Body)),
     ];
     for (bytes, wanted) in rows {
-        assert_eq!(rt; why(alloc, bytes)?, wanted, "{bytes:?}");
+        assert!(rt; why(alloc, bytes)? == wanted, "{bytes:?}");
     }
     Ok(())
 }
 
-/// A frame with one byte changed.
-fn changed(alloc: Global, frame: &[u8], place: usize, byte: u8) -> Result<Blob, Fail> {
+/// Whether a frame with one byte changed has a body off the grammar.
+fn spoils(alloc: Global, frame: &[u8], place: usize, byte: u8) -> Result<bool, Fail> {
     let mut bytes = Blob::new(alloc);
     for (i, old) in frame.iter().enumerate() {
         bytes.push(if i == place { byte } else { *old })?;
     }
-    Ok(bytes)
+    Ok(why(alloc, bytes.as_slice())? == Some(BadFrame::Body))
 }
 
 #[test]
-fn bodies_off_the_grammar(rt: HostRuntime) -> Result<(), Fail> {
+fn malformed_bodies(rt: HostRuntime) -> Result<(), Fail> {
     let alloc = rt.alloc();
-    let rows: [(&[u8], usize, u8); 20] = [
-        (&HEAD, 4, 0x0C),
-        (&HEAD, 10, 0x32),
-        (&HEAD, 16, 1),
-        (&HEAD, 17, 1),
-        (&HEAD, 17, 2),
-        (&CHECKPOINT_7, 5, 0x80),
-        (&CHECKPOINT_7, 12, 0),
-        (&INSERT, 12, 0),
-        (&INSERT, 16, 0),
-        (&INSERT, 14, 1),
-        (&INSERT, 20, 0),
-        (&INSERT, 19, 2),
-        (&INSERT, 21, 0),
-        (&INSERT, 21, 3),
-        (&INSERT, 21, 4),
-        (&INSERT, 22, 0),
-        (&INSERT, 22, 9),
-        (&INSERT, 35, 2),
-        (&INSERT, 47, 6),
-        (&INSERT, 52, 0xFF),
+    let rows: [(&[u8], &[(usize, u8)]); 3] = [
+        (&HEAD, &[(4, 0x0C), (10, 0x32), (16, 1), (17, 1), (17, 2)]),
+        (&CHECKPOINT_7, &[(5, 0x80), (12, 0)]),
+        (
+            &INSERT,
+            &[
+                (12, 0),
+                (14, 1),
+                (16, 0),
+                (19, 2),
+                (20, 0),
+                (21, 0),
+                (21, 3),
+                (21, 4),
+                (22, 0),
+                (22, 9),
+                (35, 2),
+                (47, 6),
+                (52, 0xFF),
+            ],
+        ),
     ];
-    for (frame, place, byte) in rows {
-        let bytes = changed(alloc, frame, place, byte)?;
-        assert_eq!(rt;
-            why(alloc, bytes.as_slice())?,
-            Some(BadFrame::Body),
-            "{byte} at {place} of {frame:?}"
-        );
+    for (frame, changes) in rows {
+        for (place, byte) in changes {
+            assert!(rt; spoils(alloc, frame, *place, *byte)?, "{byte} at {place}");
+        }
     }
+    Ok(())
+}
+
+/// A value of so many bytes.
+fn long_value(alloc: Global, length: u32) -> Result<Value, Fail>
+    ensures { IfOk result (λ v. IsTrue (is_log_value (view_value v))) }
+{
+    let mut bytes = Vec::new(alloc);
+    bytes.resize(length as usize, 9)?;
+    Ok(Value::Bytes(Blob::from_vec(bytes)))
+}
+
+#[test]
+fn bodies_have_a_limit(rt: HostRuntime) -> Result<(), Fail> {
+    let alloc = rt.alloc();
+    let longest = insert(alloc, long_value(alloc, 1_048_576 - 47)?)?;
+    assert_eq!(rt; write(alloc, &longest)?.len(), 5 + 1_048_576);
+    let longer = insert(alloc, long_value(alloc, 1_048_577 - 47)?)?;
+    assert_eq!(rt;
+        write(alloc, &longer).err(),
+        Some(WriteRefusal::TooLong { len: 1_048_577 })
+    );
     Ok(())
 }
 
@@ -178,70 +213,21 @@ fn nested(alloc: Global, levels: u8) -> Result<Blob, Fail> {
     Ok(bytes)
 }
 
-/// The value at the front, written again.
-fn value_again(alloc: Global, from: &mut Reader<'_>) -> Result<Blob, Fail> {
-    let value = read_value(alloc, from)?;
+/// Whether a value of these bytes is read, also where others follow, and written so again.
+fn is_value(alloc: Global, spelling: &[u8]) -> Result<bool, Fail> {
+    let mut longer = Blob::from_slice(alloc, spelling)?;
+    longer.extend_from_slice(&[9, 9])?;
+    let mut from = Reader::new(longer.as_slice());
+    let value = read_value(alloc, &mut from)?;
     let mut to = Writer::new(alloc);
     write_value(alloc, &mut to, &value)?;
-    Ok(to.finish())
-}
-
-/// An insert that sets one column.
-#[tactic(auto, using(crate::proofs::Fixtures::one_column))]
-fn with_column(alloc: Global, value: Value) -> Result<LogRecord, Memory>
-    requires { IsTrue (is_log_value (view_value value)) }
-    ensures { IfOk result (λ r. IsTrue (is_content format.One (view_item r))) }
-{
-    let mut key = List::new(alloc);
-    key.push(KeyPart::Int(1))?;
-    let mut set = List::new(alloc);
-    set.push((1, value))?;
-    Ok(LogRecord::Change(ChangeRecord {
-        ts: 5,
-        table: 1,
-        version: 1,
-        op: Op::Insert,
-        key,
-        set,
-    }))
-}
-
-#[test]
-fn bodies_have_a_limit(rt: HostRuntime) -> Result<(), Fail> {
-    let alloc = rt.alloc();
-    let longest: u32 = 1_048_576 - 36;
-    for over in 0..2 {
-        let mut spelling = Writer::new(alloc);
-        spelling.u8(4)?;
-        spelling.u32(longest + over)?;
-        for _ in 0..longest + over {
-            spelling.u8(9)?;
-        }
-        let spelling = spelling.finish();
-        let value = read_value(alloc, &mut Reader::new(spelling.as_slice()))?;
-        let item = with_column(alloc, value)?;
-        if over == 0 {
-            let frame = write(alloc, &item)?;
-            assert_eq!(rt; frame.len(), 5 + 1_048_576);
-            assert_eq!(rt;
-                written_again(alloc, frame.as_slice())?.as_slice(),
-                frame.as_slice()
-            );
-        } else {
-            assert_eq!(rt;
-                write(alloc, &item).err(),
-                Some(WriteRefusal::TooLong { len: 1_048_577 })
-            );
-        }
-    }
-    Ok(())
+    Ok(from.left() == 2 && to.finish().as_slice() == spelling)
 }
 
 #[test]
 fn worked_values(rt: HostRuntime) -> Result<(), Fail> {
     let alloc = rt.alloc();
-    let deepest = nested(alloc, 4)?;
-    let rows: [&[u8]; 9] = [
+    let rows: [&[u8]; 8] = [
         &[0],
         &[1, 0],
         &[1, 1],
@@ -250,23 +236,25 @@ fn worked_values(rt: HostRuntime) -> Result<(), Fail> {
         &[4, 0, 0, 0, 1, 0xFF],
         &[5, 0, 0],
         &[5, 0, 2, 0, 1, 0, 0xFF, 0xFF, 1, 1],
-        deepest.as_slice(),
     ];
-    for bytes in rows {
-        let mut longer = Blob::from_slice(alloc, bytes)?;
-        longer.extend_from_slice(&[9, 9])?;
-        let mut from = Reader::new(longer.as_slice());
-        assert_eq!(rt; value_again(alloc, &mut from)?.as_slice(), bytes);
-        assert_eq!(rt; from.left(), 2, "behind {bytes:?}");
+    for spelling in rows {
+        assert!(rt; is_value(alloc, spelling)?, "{spelling:?}");
     }
+    assert!(rt; is_value(alloc, nested(alloc, 4)?.as_slice())?);
     Ok(())
+}
+
+/// Whether no value stands at the front, and none of the bytes is taken.
+fn is_refused(alloc: Global, bytes: &[u8]) -> bool {
+    let mut from = Reader::new(bytes);
+    let found = read_value(alloc, &mut from);
+    matches!(found, Err(ValueRefusal::NotAValue)) && from.left() == bytes.len()
 }
 
 #[test]
 fn other_bytes_are_no_value(rt: HostRuntime) -> Result<(), Fail> {
     let alloc = rt.alloc();
-    let too_deep = nested(alloc, 5)?;
-    let rows: [&[u8]; 10] = [
+    let rows: [&[u8]; 9] = [
         &[],
         &[6],
         &[1, 2],
@@ -276,61 +264,10 @@ fn other_bytes_are_no_value(rt: HostRuntime) -> Result<(), Fail> {
         &[5, 0, 1, 0, 0, 0],
         &[5, 0, 2, 0, 1, 0, 0, 1, 0],
         &[5, 0, 2, 0, 2, 0, 0, 1, 0],
-        too_deep.as_slice(),
     ];
     for bytes in rows {
-        let mut from = Reader::new(bytes);
-        assert_eq!(rt;
-            read_value(alloc, &mut from).err(),
-            Some(ValueRefusal::NotAValue),
-            "{bytes:?}"
-        );
-        assert_eq!(rt; from.left(), bytes.len(), "left of {bytes:?}");
+        assert!(rt; is_refused(alloc, bytes), "{bytes:?}");
     }
-    Ok(())
-}
-
-#[test]
-fn refusals_in_words(rt: HostRuntime) -> Result<(), Fail> {
-    let alloc = rt.alloc();
-    let rows: [(String, &str); 4] = [
-        (
-            format!(in alloc; "{}", WriteRefusal::TooLong { len: 7 })?,
-            "a body of 7 bytes",
-        ),
-        (
-            format!(in alloc; "{}", WriteRefusal::Memory)?,
-            "out of memory",
-        ),
-        (
-            format!(in alloc; "{}", ValueRefusal::NotAValue)?,
-            "no value",
-        ),
-        (
-            format!(in alloc; "{}", ValueRefusal::Memory)?,
-            "out of memory",
-        ),
-    ];
-    for (text, wanted) in &rows {
-        assert_eq!(rt; text.as_str(), *wanted);
-    }
-    Ok(())
-}
-
-#[test]
-fn a_copy_equals_its_header(rt: HostRuntime) -> Result<(), Fail> {
-    let alloc = rt.alloc();
-    let header = StreamHeader {
-        stream: 3,
-        range: Range {
-            low: KeyBytes::from_slice(alloc, &[1])?,
-            high: Some(KeyBytes::from_slice(alloc, &[2, 0])?),
-        },
-    };
-    let (wanted, copy) = (
-        format!(in alloc; "{header:?}")?,
-        format!(in alloc; "{:?}", header.copy()?)?,
-    );
-    assert_eq!(rt; copy.as_str(), wanted.as_str());
+    assert!(rt; is_refused(alloc, nested(alloc, 5)?.as_slice()));
     Ok(())
 }

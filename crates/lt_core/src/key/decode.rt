@@ -31,6 +31,11 @@ pub enum DecodeRefusal {
 }
 
 impl fmt::Display for DecodeRefusal {
+    ghost use Rattle.std.specs.Prelude.{Some};
+    ghost use Rattle.lt_core.specs.Messages.{decode_message};
+
+    ghost output = { λ e. Some (decode_message e) };
+
     fn fmt<W: fmt::Write>(&self, f: &mut fmt::Formatter<W>) -> fmt::Result {
         match self {
             DecodeRefusal::NotAKey => f.write_str("not a key of these kinds"),

@@ -33,6 +33,11 @@ pub enum KeyRefusal {
 }
 
 impl fmt::Display for KeyRefusal {
+    ghost use Rattle.std.specs.Prelude.{Some};
+    ghost use Rattle.lt_core.specs.Messages.{key_message};
+
+    ghost output = { λ e. Some (key_message e) };
+
     fn fmt<W: fmt::Write>(&self, f: &mut fmt::Formatter<W>) -> fmt::Result {
         match self {
             KeyRefusal::TooLong { len } => write!(f, "a key of {len} bytes"),

@@ -1,6 +1,6 @@
 //! Changes, part by part. Reading takes time linear in the bytes that are taken.
 
-ghost use Rattle.std.specs.Prelude.{◌≡◌, IfOk};
+ghost use Rattle.std.specs.Prelude.{◌≡◌};
 ghost use Rattle.lt_core.specs.View.{view_part, view_parts};
 ghost use Rattle.lt_codecs.specs.Codec.{read_times};
 ghost use Rattle.lt_codecs.specs.LogCodec as log;
@@ -9,9 +9,10 @@ ghost use Rattle.lt_records.specs.View.{parts_of, view_change};
 
 use crate::reading::fault::Stop;
 use crate::reading::field::{i64_at, text_at};
+use crate::reading::key_length::key_fits;
 use crate::reading::value::{MAX_DEPTH, settings_at};
 use crate::record::ChangeRecord;
-use lt_core::{KeyPart, KeyParts, List, MAX_KEY, Memory, Op, Reader, Ts, encode_prefix};
+use lt_core::{KeyPart, KeyParts, List, Op, Reader, Ts};
 use std::alloc::Global;
 
 /// The most parts that a key may have.
@@ -52,7 +53,7 @@ fn change_behind(alloc: Global, ts: Ts, from: &mut Reader<'_>) -> Result<ChangeR
         key,
         set,
     };
-    if fits_together(alloc, &change)? {
+    if fits_together(&change) {
         Ok(change)
     } else {
         Err(Stop::Unlike)
@@ -151,9 +152,8 @@ fn part_at(alloc: Global, from: &mut Reader<'_>) -> Result<KeyPart, Stop>
 }
 
 /// Whether the encoded key is short enough, and a delete has no columns.
-fn fits_together(alloc: Global, change: &ChangeRecord) -> Result<bool, Memory>
-    ensures { IfOk result (λ fits. fits ≡ log.fit_together (parts_of change.now)) }
+fn fits_together(change: &ChangeRecord) -> bool
+    ensures { result ≡ log.fit_together (parts_of change.now) }
 {
-    let key = encode_prefix(alloc, change.table, &change.key)?;
-    Ok(key.len() <= MAX_KEY && (change.op != Op::Delete || change.set.len() == 0))
+    key_fits(&change.key) && (change.op != Op::Delete || change.set.len() == 0)
 }

@@ -7,7 +7,7 @@ ghost use Rattle.lt_model.specs.declared.Format.TheVariants as format;
 ghost use Rattle.lt_model.specs.Log.{IsFound};
 ghost use Rattle.lt_codecs.specs.Codec as codec;
 ghost use Rattle.lt_codecs.specs.LogCodec as log;
-ghost use Rattle.lt_records.specs.Reading.{Gives, GivesWhole};
+ghost use Rattle.lt_records.specs.Reading.{Gives, GivesWhole, NothingElse};
 ghost use Rattle.lt_records.specs.View.{view_found, view_item};
 
 use crate::reading::change::{change_at, timestamp_at};
@@ -33,7 +33,8 @@ pub const CHECKPOINT: u8 = 3;
 
 /// What stands at the front of bytes: a whole frame, too few bytes to tell, or bytes that never become a frame.
 pub fn next(alloc: Global, bytes: &[u8]) -> Result<Found, Memory>
-    ensures { IfOk result (λ found. IsFound format.One bytes.now (view_found found)) }
+    ensures found { IfOk result (λ found. IsFound format.One bytes.now (view_found found)) }
+    ensures only { IfOk result (λ found. NothingElse bytes.now (view_found found)) }
 {
     find(alloc, bytes)
 }
