@@ -1,0 +1,12 @@
+pub mod Rising
+pub mod SeenLaws
+pub mod NameLists
+pub mod Shapes
+pub mod Versions
+pub mod Joins
+pub mod Puts
+pub mod Counts
+pub mod TableLists
+pub mod LimitLaws
+pub mod FaultLaws
+pub mod NextLaws

@@ -1,0 +1,7 @@
+use Rattle.std.specs.Prelude.{◌≡◌, drop}
+use Rattle.lt_core.specs.View.{view_settings}
+use Rattle.lt_model.specs.Value.{are_fields, fields_of}
+use Rattle.lt_schema.proofs.adding.defaults.+values.Given as goal
+
+abbrev pub invariant-are_fields-loop-number : goal.invariant-are_fields-loop-number
+invariant-are_fields-loop-number l = are_fields l.depth l.before (fields_of (view_settings (drop l.number-index l.number-items))) ≡ are_fields l.depth 0 (fields_of (view_settings l.number-items))

@@ -1,0 +1,8 @@
+use Rattle.std.specs.Prelude.{◌≡◌, drop, map}
+use Rattle.lt_model.specs.Schema.{changed_kind}
+use Rattle.lt_schema.specs.Tables.{view_registered}
+use Rattle.lt_schema.specs.View.{view_columns}
+use Rattle.lt_schema.proofs.adding.history.changed.Given as goal
+
+abbrev pub invariant-loop-column : goal.invariant-loop-column
+invariant-loop-column l = changed_kind (map view_registered l.versions) (view_columns (drop l.column-index l.columns)) ≡ changed_kind (map view_registered l.versions) (view_columns l.columns)

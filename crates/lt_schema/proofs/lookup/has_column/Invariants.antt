@@ -1,0 +1,8 @@
+use Rattle.std.specs.Prelude.{◌≡◌, drop, map}
+use Rattle.std.specs.List.{list_any}
+use Rattle.lt_model.specs.Schema.{has_column}
+use Rattle.lt_schema.specs.Tables.{view_registered}
+use Rattle.lt_schema.proofs.lookup.has_column.Given as goal
+
+abbrev pub invariant-loop-registered : goal.invariant-loop-registered
+invariant-loop-registered l = list_any (has_column l.number) (map view_registered (drop l.registered-index l.versions)) ≡ list_any (has_column l.number) (map view_registered l.versions)

@@ -1,0 +1,12 @@
+pub mod View
+pub mod Tables
+pub mod Lookups
+pub mod Numbers
+pub mod Names
+pub mod Seen
+pub mod Defaults
+pub mod History
+pub mod Carriers
+pub mod Limits
+pub mod Faults
+pub mod Catalogues
