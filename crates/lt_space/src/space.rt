@@ -1,0 +1,101 @@
+//! The space of a store file, as the extents of it that are taken, in order of their places.
+//!
+//! `new` takes time as a sort does. `take` looks at no more extents than there are: a search for a gap that is longer than all
+//! those before the last extent that was taken goes on behind it, so pieces of one size follow each other without a look at
+//! the rest. `take` and `give` move the extents that stand behind theirs. `give` finds its extent in logarithmic time, and
+//! takes no memory.
+
+ghost use Rattle.std.specs.Prelude.{◌≡◌, ◌<◌, IsTrue, IfOk, IfErr, OnOk, OnErr, Contains};
+ghost use Rattle.std.specs.List.Sorted.{IsPermutation};
+ghost use Rattle.lt_model.specs.Store.{are_apart, IsLowestGap};
+ghost use Rattle.lt_space.specs.Extents.{AreApart, Extents, RefusesAll, RefusesOne, Takes};
+
+use crate::gaps::{NONE, Passed, longest_gap, lowest_gap};
+use crate::misplaced::first_misplaced;
+use crate::order::place_of;
+use crate::refusal::SpaceRefusal;
+use lt_model::Extent;
+use std::alloc::Global;
+use std::marker::Model;
+
+/// A store file up to its limit, which contracts see as that limit and the taken extents.
+#[derive(Debug, Drop)]
+pub struct Space {
+    limit: u64,
+    taken: Vec<Extent>,
+    passed: Passed,
+}
+
+impl Model for Space {
+    ghost use Rattle.lt_space.specs.Extents.{Extents};
+    ghost use Rattle.lt_space.specs.Gaps.{IsKept};
+
+    ghost Value = { Extents };
+
+    ghost view = { λ s. record { limit = s.limit; taken = s.taken.items } };
+
+    ghost invariant = { λ s. IsKept s.limit s.taken.items s.passed };
+}
+
+impl Space {
+    /// The space in which these extents are taken. `Overlap` where one of them meets the slots, the limit or another one.
+    pub fn new(alloc: Global, limit: u64, live: &[Extent]) -> Result<Space, SpaceRefusal>
+        ensures limit { IfOk result (λ s. s.limit ≡ limit) }
+        ensures taken { IfOk result (λ s. IsPermutation live.now s.taken) }
+        ensures apart { IfOk result AreApart }
+        ensures live { OnOk result (IsTrue (are_apart limit live.now)) }
+        ensures refused { IfErr result (RefusesAll limit live.now) }
+    {
+        let mut taken = Vec::from_slice(alloc, live)?;
+        taken.sort_unstable_by_key(|extent| (extent.place, extent.length));
+        if let Some(place) = first_misplaced(&taken, limit) {
+            return Err(SpaceRefusal::Overlap { place });
+        }
+        Ok(Space {
+            limit,
+            taken,
+            passed: NONE,
+        })
+    }
+
+    /// Takes the lowest gap of a length. `StoreFull` where none is so long. An `Err` changes nothing.
+    pub fn take(&mut self, length: u64) -> Result<Extent, SpaceRefusal>
+        requires { 0 < length }
+        ensures lowest { IfOk result (IsLowestGap self.old.limit self.old.taken length) }
+        ensures taken { IfOk result (λ e. Takes e self.old self.new) }
+        ensures there { IfOk result (Contains self.new.taken) }
+        ensures apart { AreApart self.new }
+        ensures refused { IfErr result (RefusesOne self.old length) }
+        ensures err { OnErr result (self.new ≡ self.old) }
+    {
+        let from = self.passed.before(length);
+        let Some(gap) = lowest_gap(&self.taken, self.limit, from, length) else {
+            let room = longest_gap(&self.taken, self.limit);
+            return Err(SpaceRefusal::StoreFull { need: length, room });
+        };
+        let extent = Extent {
+            place: gap.end,
+            length,
+        };
+        self.taken.insert(gap.count, extent)?;
+        self.passed = Passed {
+            count: gap.count + 1,
+            end: gap.end + length,
+            longest: gap.longest,
+        };
+        Ok(extent)
+    }
+
+    /// Gives back an extent that is taken. It takes no memory.
+    pub fn give(&mut self, extent: Extent)
+        requires { Contains self.old.taken extent }
+        ensures given { Takes extent self.new self.old }
+        ensures apart { AreApart self.new }
+        // It undoes the taking.
+        ensures undoes { (before : Extents) → 0 < extent.length → Takes extent before self.old → self.new ≡ before }
+    {
+        let place = place_of(&self.taken, &extent);
+        self.taken.remove(place);
+        self.passed = NONE;
+    }
+}
