@@ -10,8 +10,7 @@ use Rattle.lt_model.specs.Fair.{Feed, IsPrefix, Point, checkpoint_of, is_closed,
 use Rattle.lt_model.specs.Key.{Range, all_keys}
 use Rattle.lt_model.specs.Log.{Change, Header, Item, batch_item, change_item, changes_of, checkpoint_item, close_item, header_item, is_item}
 use Rattle.lt_model.specs.Machine.{Answer, Does, Pumps, State, Step, StepBy, Stops, StreamAt, Takes, all_delivered, behind_header, entering, moved_by, not_safe_asked, ranges_of, refused, refuses, replies, too_old_asked}
-use Rattle.lt_model.specs.OneTable.{HasTaken, IsOneStream, only_catalogue, only_header, only_session, only_table, only_version, scan_answer, scan_query, scan_text, session_after, standing}
-use Rattle.lt_model.specs.Program.{run_cause}
+use Rattle.lt_model.specs.OneTable.{HasTaken, IsOneStream, only_catalogue, only_cause, only_header, only_session, only_table, only_version, scan_answer, scan_query, scan_text, session_after, standing}
 use Rattle.lt_model.specs.Query.{answer, interval}
 use Rattle.lt_model.specs.Reply.{Refusal, Stop, feed_fault, not_safe, out_fault, out_of_memory, pump_done, refusal_text, reply_text, too_old}
 use Rattle.lt_model.specs.Row.{snapshot}
@@ -92,14 +91,15 @@ the_front g one = let f = front_stands g only_catalogue only_header 0 refl one.h
 -- ---- what is answered
 
 -- by a step of the machine, over the source of the front
-pub step_answered : (before now : ℕ) (old new : List Item) (c : Command) (g : Feed) (f : TheFront g) (a : Answer) → a.reply ≢ Err out_fault
-    → Step g (source_of ((only_header, f.items) ∷ [])) (session_after old) c a (session_after new) → Answered before now old new c g (answer_text (session_after old) c a)
-step_answered before now old new c g f a goes step n m e d w = record {
+pub step_answered : (k : ℕ) (old new : List Item) (c : Command) (g : Feed) (f : TheFront g) (a : Answer) → a.reply ≢ Err out_fault
+    → Step g (source_of ((only_header, f.items) ∷ [])) (session_after old) c a (session_after new) → Answered k k old new c g (answer_text (session_after old) c a)
+step_answered k old new c g f a goes step n m e d w = record {
   answer = a;
   text = refl;
   answers = ((only_header, f.items) ∷ [], f.fronts, inl step);
   goes_on = goes;
-  write_fault = λ l. absurd (omega (arith, w, l));
+  feed_failed = λ l. absurd (omega (arith, e, d, l));
+  write_failed = λ l. absurd (omega (arith, w, l));
 }
 
 -- where the state does not refuse the command
@@ -143,26 +143,27 @@ pump_does g source old new count records stop p = (
   (standing new, refl, ap (λ (n : ℕ). replies (pump_done 0 n (standing new).offset (standing new).point.checkpoint stop)) (sym p.number)),
 )
 
-pub pump_answered : (k j : ℕ) (g : Feed) (old new : List Item) (count records : ℕ) (stop : Stop) → HasTaken g old → Pumped g old new count records stop
-    → Answered k j old new (do_pump 0 count) g (reply_text (pump_done 0 records (standing new).offset (standing new).point.checkpoint stop))
-pump_answered k j g old new count records stop h p =
+pub pump_answered : (k : ℕ) (g : Feed) (old new : List Item) (count records : ℕ) (stop : Stop) → HasTaken g old → Pumped g old new count records stop
+    → Answered k k old new (do_pump 0 count) g (reply_text (pump_done 0 records (standing new).offset (standing new).point.checkpoint stop))
+pump_answered k g old new count records stop h p =
     let f = the_front g h.stream in
-    step_answered k j old new (do_pump 0 count) g f (replies (pump_done 0 records (standing new).offset (standing new).point.checkpoint stop)) (λ e. cc)
+    step_answered k old new (do_pump 0 count) g f (replies (pump_done 0 records (standing new).offset (standing new).point.checkpoint stop)) (λ e. cc)
     (done_step g (source_of ((only_header, f.items) ∷ [])) (session_after old) (do_pump 0 count) (replies (pump_done 0 records (standing new).offset (standing new).point.checkpoint stop)) (session_after new) (pump_not_refused old count) (pump_does g (source_of ((only_header, f.items) ∷ [])) old new count records stop p))
 
 -- ---- faults
 
 -- in place of an answer to a command that is not refused, or for want of memory
 pub fault_answered : (before now : ℕ) (old new : List Item) (c : Command) (g : Feed) (f : TheFront g) (r : Refusal) → (refuses r).reply ≢ Err out_fault → IsTrue (is_fault r) → IsTrue (may_end_in c r)
-    → ((n m : Counts) → n.feed ≡ before → m.feed ≡ now → run_cause n m g (session_after old) c r)
+    → ((n m : Counts) → n.feed ≡ before → m.feed ≡ now → only_cause n m g (session_after old) c r)
     → AfterFault g (source_of ((only_header, f.items) ∷ [])) (session_after old) c r (session_after new)
-    → (((r ≡ out_of_memory) × ((refuses r).rows ≡ [])) ⊎ (refused (session_after old) c ≡ None)) → Answered before now old new c g (refusal_text r)
-fault_answered before now old new c g f r goes fault ends cause after lets n m e d w = record {
+    → (((r ≡ out_of_memory) × ((refuses r).rows ≡ [])) ⊎ (refused (session_after old) c ≡ None)) → (before < now → (refuses r).reply ≡ Err feed_fault) → Answered before now old new c g (refusal_text r)
+fault_answered before now old new c g f r goes fault ends cause after lets failed n m e d w = record {
   answer = refuses r;
   text = refl;
   answers = ((only_header, f.items) ∷ [], f.fronts, inr (r, refl, fault, ends, cause n m e d, inl refl, after, lets));
   goes_on = goes;
-  write_fault = λ l. absurd (omega (arith, w, l));
+  feed_failed = λ l. failed (omega (arith, e, d, l));
+  write_failed = λ l. absurd (omega (arith, w, l));
 }
 
 -- what a pump that a fault ends has taken
@@ -174,14 +175,14 @@ rose_at k j a b e d r = subst (λ (x : ℕ). Rose x b) (sym e) (subst (λ (x : �
 
 pub pump_failed : (k j : ℕ) (g : Feed) (old new : List Item) (count : ℕ) → HasTaken g old → PumpedSome g old new count → Rose k j → Answered k j old new (do_pump 0 count) g (refusal_text feed_fault)
 pump_failed k j g old new count h p rose = fault_answered k j old new (do_pump 0 count) g (the_front g h.stream) feed_fault (λ e. cc) refl refl (λ n m e d. rose_at k j n.feed m.feed e d rose)
-    (took_some g (source_of ((only_header, (the_front g h.stream).items) ∷ [])) old new count feed_fault refl p) (inr (pump_not_refused old count))
+    (took_some g (source_of ((only_header, (the_front g h.stream).items) ∷ [])) old new count feed_fault refl p) (inr (pump_not_refused old count)) (λ l. refl)
 
-pub pump_lacked : (k j : ℕ) (g : Feed) (old new : List Item) (count : ℕ) → HasTaken g old → PumpedSome g old new count → Answered k j old new (do_pump 0 count) g (refusal_text out_of_memory)
-pump_lacked k j g old new count h p = fault_answered k j old new (do_pump 0 count) g (the_front g h.stream) out_of_memory (λ e. cc) refl refl (λ n m e d. tt)
-    (took_some g (source_of ((only_header, (the_front g h.stream).items) ∷ [])) old new count out_of_memory refl p) (inr (pump_not_refused old count))
+pub pump_lacked : (k : ℕ) (g : Feed) (old new : List Item) (count : ℕ) → HasTaken g old → PumpedSome g old new count → Answered k k old new (do_pump 0 count) g (refusal_text out_of_memory)
+pump_lacked k g old new count h p = fault_answered k k old new (do_pump 0 count) g (the_front g h.stream) out_of_memory (λ e. cc) refl refl (λ n m e d. tt)
+    (took_some g (source_of ((only_header, (the_front g h.stream).items) ∷ [])) old new count out_of_memory refl p) (inr (pump_not_refused old count)) (λ l. absurd (omega (arith, l)))
 
 pub scan_lacked : (k : ℕ) (g : Feed) (items : List Item) (at : ℕ) → HasTaken g items → Answered k k items items (do_scan (scan_query at)) g (refusal_text out_of_memory)
-scan_lacked k g items at h = fault_answered k k items items (do_scan (scan_query at)) g (the_front g h.stream) out_of_memory (λ e. cc) refl refl (λ n m e d. tt) (inl refl) (inl (refl, refl))
+scan_lacked k g items at h = fault_answered k k items items (do_scan (scan_query at)) g (the_front g h.stream) out_of_memory (λ e. cc) refl refl (λ n m e d. tt) (inl refl) (inl (refl, refl)) (λ l. absurd (omega (arith, l)))
 
 -- ---- when a scan is refused
 
@@ -260,7 +261,7 @@ pub scan_not_safe : (k : ℕ) (g : Feed) (items : List Item) (at : ℕ) → HasT
 scan_not_safe k g items at h l =
     let f = the_front g h.stream in
     let r = not_safe 0 (checkpoint_of only_header items) in
-    step_answered k k items items (do_scan (scan_query at)) g f (refuses r) (λ e. cc)
+    step_answered k items items (do_scan (scan_query at)) g f (refuses r) (λ e. cc)
     (refused_step g (source_of ((only_header, f.items) ∷ [])) (session_after items) (do_scan (scan_query at)) r (scan_refused items at true (fair_taken g items h) (is_below (checkpoint_of only_header items) at l)))
 
 -- ---- a scan that is safe
@@ -286,6 +287,6 @@ pub scan_answered : (k : ℕ) (g : Feed) (items : List Item) (at : ℕ) → HasT
 scan_answered k g items at h l =
     let f = the_front g h.stream in
     let source = source_of ((only_header, f.items) ∷ []) in
-    step_answered k k items items (do_scan (scan_query at)) g f (scan_answer items at) (λ e. cc)
+    step_answered k items items (do_scan (scan_query at)) g f (scan_answer items at) (λ e. cc)
     (done_step g source (session_after items) (do_scan (scan_query at)) (scan_answer items at) (session_after items) (scan_refused items at false (fair_taken g items h) (not_below (checkpoint_of only_header items) at l))
     (scan_does g source items at (same_snapshot g items at h f l)))

@@ -1,15 +1,14 @@
--- A stream's front, byte by byte, and the header that begins it.
-use Rattle.std.proofs.Common.{◌≡◌, ℕ, ◌+◌, ◌<◌, suc, zero, Bool, true, false, not, eqb, nat_eq, slice_index_or, List, [], ◌∷◌, ◌++◌, length, take, refl, sym, ap, ◌∙◌, subst, arith}
-use Rattle.std.proofs.lemmas.Bool.{eq-eqb, eqb-true}
-use Rattle.std.proofs.lemmas.Option.{slice_get-get_or}
-use Rattle.std.specs.Option.{option_eq}
-use Rattle.std.specs.Prelude.{IfSome, None, Option, Some, slice_get, ◌↔◌}
+-- A stream's front, read piece by piece, and the header that begins it.
+use Rattle.std.proofs.Common.{◌≡◌, ℕ, ◌+◌, ◌<◌, ◌≤◌, ◌∙◌, ap₂, append_assoc, drop, length-append, length-drop, take-append-drop, suc, Bool, true, false, List, [], ◌∷◌, ◌++◌, length, take, refl, sym, ap, ◌∙◌, arith}
+use Rattle.std.proofs.lemmas.List.{drop-append-le, length-take-le, take-append-le, take-take, take_at}
+use Rattle.std.proofs.Math.Seq.{take-add}
+use Rattle.std.specs.Prelude.{min, IfSome, None, Option, Some, ◌↔◌}
 use Rattle.lt_model.specs.Fair.{Feed, Grows, stream_bytes}
 use Rattle.lt_model.specs.Log.{header_item, spelled}
 use Rattle.lt_model.specs.OneTable.{IsOneStream, only_header}
-use Rattle.lt_model.specs.Outside.{FeedGrows, StaysTold}
+use Rattle.lt_model.specs.Outside.{FeedGrows, FeedReads, StaysTold}
 use Rattle.lightning_cli.proofs.PumpLaws.{ahead_grows}
-use Rattle.lightning_cli.specs.Pumps.{IsAhead}
+use Rattle.lightning_cli.specs.Pumps.{IsAhead, Matches}
 
 -- what two told contents say together, one of which grew to the other
 told_step : (P Q R : Feed → Type 0) (o p : Option Feed) → StaysTold o p → FeedGrows o p → IfSome o P → IfSome p Q → ((f g : Feed) → Grows f g → P f → Q g → R g) → IfSome p R
@@ -20,26 +19,6 @@ told_step P Q R (Some f) (Some g) s h a b k = k f g h a b
 pub told_map : (P Q : Feed → Type 0) (o : Option Feed) → IfSome o P → ((f : Feed) → P f → Q f) → IfSome o Q
 told_map P Q None a k = tt
 told_map P Q (Some f) a k = k f a
-
--- one byte more of a front
-front_next : (n : ℕ) (front bytes rest : List ℕ) (x : ℕ) → bytes ≡ take n front ++ rest → slice_get front n ≡ Some x → slice_get bytes n ≡ Some x → (more : List ℕ) × (bytes ≡ take (suc n) front ++ more)
-front_next zero [] bytes rest x e h b = absurd cc
-front_next zero (y ∷ front) [] rest x e h b = absurd cc
-front_next zero (y ∷ front) (c ∷ bytes) rest x e h b = let same : c ≡ y = cc in (bytes, ap (λ z. z ∷ bytes) same)
-front_next (suc n) [] bytes rest x e h b = absurd cc
-front_next (suc n) (y ∷ front) [] rest x e h b = absurd cc
-front_next (suc n) (y ∷ front) (c ∷ bytes) rest x e h b =
-    let head : c ≡ y = cc in
-    let tail : bytes ≡ take n front ++ rest = cc in
-    let next = front_next n front bytes rest x tail h b in
-    (next.0, ap (λ z. z ∷ bytes) head ∙ ap (λ z. y ∷ z) next.1)
-
--- a front has its bytes
-front_byte : (n : ℕ) (front bytes rest : List ℕ) (x : ℕ) → bytes ≡ front ++ rest → slice_get front n ≡ Some x → slice_get bytes n ≡ Some x
-front_byte n [] bytes rest x e h = absurd cc
-front_byte n (y ∷ front) [] rest x e h = absurd cc
-front_byte zero (y ∷ front) (c ∷ bytes) rest x e h = let same : c ≡ y = cc in ap Some same ∙ h
-front_byte (suc n) (y ∷ front) (c ∷ bytes) rest x e h = let tail : bytes ≡ front ++ rest = cc in front_byte n front bytes rest x tail h
 
 -- the number of streams stays
 as_many_streams : (f g : Feed) → Grows f g → length g ≡ length f
@@ -61,33 +40,48 @@ pub front_none : (told : Option Feed) → IfSome told (λ f. IsAhead f 0 [])
 front_none None = tt
 front_none (Some f) = (stream_bytes f 0, refl)
 
-differs : (b : Option ℕ) (x : ℕ) → true ≡ not (option_eq nat_eq b (Some x)) → b ≡ Some x → ⊥
-differs None x h e = absurd cc
-differs (Some y) x h e = let t : eqb y x ≡ true = eq-eqb y x cc in absurd (let d : true ≡ false = h ∙ ap not t in cc)
+-- ---- one read, and what is wanted
 
-is_same : (b : Option ℕ) (x : ℕ) → false ≡ not (option_eq nat_eq b (Some x)) → b ≡ Some x
-is_same None x h = absurd cc
-is_same (Some y) x h = ap Some (eqb-true y x (shows (eqb y x) h))
+-- what was read is what stands there
+read_is : (s buf : List ℕ) (at count size : ℕ) → take count buf ≡ take count (drop at s) → size ≤ count → take size (drop at s) ≡ take size buf
+read_is s buf at count size e h = sym (take-take size count (drop at s) h) ∙ ap (take size) (sym e) ∙ take-take size count buf h
+
+pub read_matches : (f : Feed) (at : ℕ) (want buf : List ℕ) (count size : ℕ) → FeedReads (Some f) 0 at buf count → size ≡ min count (length want) → 0 < length want → take size buf ≡ take size want → Matches size f at want
+read_matches f at want buf count size r e some same = (
+  (drop size (drop at s), sym (take-append-drop size (drop at s)) ∙ ap (λ x. x ++ drop size (drop at s)) (read_is s buf at count size r.0 (omega (arith, e)) ∙ same)),
+  λ none ahead.
+      let at_end : length s ≤ at = r.1.0 (omega (arith, none, e, some)) in
+      absurd (omega (arith, some, ap length ahead.1, length-drop at s, length-append want ahead.0, at_end)),
+)
   where
-    shows : (b : Bool) → false ≡ not b → b ≡ true
-    shows true h = refl
-    shows false h = absurd cc
+    s : List ℕ
+    s = stream_bytes f 0
 
--- a byte that differs
-pub not_ahead : (at : ℕ) (front : List ℕ) (b : Option ℕ) (f : Feed) → at < length front → true ≡ not (option_eq nat_eq b (Some (slice_index_or front at 0))) → slice_get (stream_bytes f 0) at ≡ b → (false ≡ true) ↔ IsAhead f 0 front
-not_ahead at front b f l h s =
-    (λ e. absurd cc, λ a. absurd (differs b (slice_index_or front at 0) h (sym s ∙ front_byte at front (stream_bytes f 0) a.0 (slice_index_or front at 0) a.1 (slice_get-get_or front at 0 l))))
+pub read_differs : (f : Feed) (at : ℕ) (want buf : List ℕ) (count size : ℕ) → FeedReads (Some f) 0 at buf count → size ≡ min count (length want) → (take size buf ≡ take size want → ⊥) → Matches 0 f at want
+read_differs f at want buf count size r e other = (
+  (drop at (stream_bytes f 0), refl),
+  λ none ahead.
+      let s = stream_bytes f 0 in
+      other (sym (read_is s buf at count size r.0 (omega (arith, e))) ∙ ap (take size) ahead.1 ∙ take-append-le size want ahead.0 (omega (arith, e))),
+)
 
--- a byte more
-pub next_ahead : (at : ℕ) (front : List ℕ) (b : Option ℕ) (told told' : Option Feed) → StaysTold told told' → FeedGrows told told' → at < length front → false ≡ not (option_eq nat_eq b (Some (slice_index_or front at 0)))
-    → IfSome told (λ f. IsAhead f 0 (take at front)) → IfSome told' (λ f. slice_get (stream_bytes f 0) at ≡ b) → IfSome told' (λ f. IsAhead f 0 (take (at + 1) front))
-next_ahead at front b told told' s h l same a r =
-    told_step (λ f. IsAhead f 0 (take at front)) (λ f. slice_get (stream_bytes f 0) at ≡ b) (λ f. IsAhead f 0 (take (at + 1) front)) told told' s h a r
-    (λ f g grows before byte. let now = ahead_grows f g 0 (take at front) grows before in
-    let x = slice_index_or front at 0 in
-    let more = front_next at front (stream_bytes g 0) now.0 x now.1 (slice_get-get_or front at 0 l) (byte ∙ is_same b x same) in
-    let one : suc at ≡ at + 1 = omega arith in
-    subst (λ n. IsAhead g 0 (take n front)) one more)
+-- more of a front
+pub next_ahead : (at n : ℕ) (front : List ℕ) (told told' : Option Feed) → StaysTold told told' → FeedGrows told told' → at + n ≤ length front
+    → IfSome told (λ f. IsAhead f 0 (take at front)) → IfSome told' (λ f. Matches n f at (drop at front)) → IfSome told' (λ f. IsAhead f 0 (take (at + n) front))
+next_ahead at n front told told' s h within a m =
+    told_step (λ f. IsAhead f 0 (take at front)) (λ f. Matches n f at (drop at front)) (λ f. IsAhead f 0 (take (at + n) front)) told told' s h a m
+    (λ f g grows before here.
+    let now = ahead_grows f g 0 (take at front) grows before in
+    let x = stream_bytes g 0 in
+    let first : take at x ≡ take at front = ap (take at) now.1 ∙ take_at (take at front) now.0 at (length-take-le at front (omega (arith, within))) in
+    (here.0.0, sym (take-append-drop at x) ∙ ap₂ (λ y z. y ++ z) first here.0.1 ∙ sym (append_assoc (take at front) (take n (drop at front)) here.0.0) ∙ ap (λ y. y ++ here.0.0) (sym (take-add at n front))))
+
+-- a front whose rest does not stand there does not stand there
+pub not_ahead : (at : ℕ) (front : List ℕ) (f : Feed) → Matches 0 f at (drop at front) → at ≤ length front → (false ≡ true) ↔ IsAhead f 0 front
+not_ahead at front f m within = (
+  λ e. absurd cc,
+  λ ahead. absurd (m.1 refl (ahead.0, ap (drop at) ahead.1 ∙ drop-append-le at front ahead.0 within)),
+)
 
 -- the number of streams, from where it was told
 pub still_one : (known : ℕ) (told told' : Option Feed) → StaysTold told told' → FeedGrows told told' → IfSome told (λ f. length f ≡ known) → known ≡ 1 → IfSome told' (λ f. length f ≡ 1)

@@ -1,15 +1,16 @@
 -- What calls append to a sink, one after another.
 use Rattle.std.proofs.lemmas.Bool.{eqb-false}
 use Rattle.std.proofs.lemmas.List.{take-take}
-use Rattle.std.proofs.Common.{Bool, take-append-drop, eqb-true, false, subst, true, ◌≡◌, ℕ, ◌≤◌, List, [], ◌∷◌, ◌++◌, take, drop, refl, sym, ap, ◌∙◌, append_assoc, append-nil, arith}
+use Rattle.std.proofs.Common.{Bool, take-append-drop, eqb-true, false, subst, true, ◌≡◌, ℕ, ◌+◌, ◌<◌, ◌^◌, ◌≤◌, length, length-append, List, [], ◌∷◌, ◌++◌, take, drop, refl, sym, ap, ◌∙◌, append_assoc, append-nil, arith}
 use Rattle.std.proofs.lemmas.Fmt.{decimal_digit}
+use Rattle.lt_model.specs.Disk.{Rose}
 use Rattle.lt_model.specs.Outside.{StaysTold}
 use Rattle.lt_model.specs.Reply.{text_line}
-use Rattle.lt_model.specs.Run.{script_fault_text, too_long_text}
-use Rattle.std.specs.Prelude.{Err, codes, is_some, None, Ok, OnErr, OnOk, is_err, ◌==◌, Option, Result, Some}
+use Rattle.lt_model.specs.Run.{max_script, script_fault_text, too_long_text}
+use Rattle.std.specs.Prelude.{Err, IfSome, codes, is_some, None, Ok, OnErr, OnOk, is_err, ◌==◌, Option, Result, Some}
 use Rattle.std.specs.Io.KnownBytes.{Appends, Consumes, IsAtEnd, Keeps}
 use Rattle.lt_model.specs.Program.{IsFront}
-use Rattle.lightning_cli.specs.Serving.{AppendsFront, Goes}
+use Rattle.lightning_cli.specs.Serving.{AppendsFront, Goes, IsTaken}
 
 pub appends_nothing : (o : Option (List ℕ)) → Appends o o []
 appends_nothing None = tt
@@ -107,3 +108,28 @@ out_goes told faults = record { stays = (λ h. h, λ h. h); later = omega arith 
 
 pub out_goes_then : (o p q : Option (List ℕ)) (x y z : ℕ) → Goes o p x y → Goes p q y z → Goes o q x z
 out_goes_then o p q x y z h k = record { stays = (λ s. k.stays.0 (h.stays.0 s), λ s. h.stays.1 (k.stays.1 s)); later = omega (arith, h.later, k.later) }
+
+-- ---- how much was taken of a script
+
+pub none_gone : (o : Option (List ℕ)) → IsTaken o o 0
+none_gone None = tt
+none_gone (Some s) = omega arith
+
+pub gone_then : (o p q : Option (List ℕ)) (n m : ℕ) → StaysTold o p → IsTaken o p n → IsTaken p q m → IsTaken o q (n + m)
+gone_then None p q n m s h k = tt
+gone_then (Some a) None q n m s h k = absurd (let t : false ≡ true = s.0 refl in cc)
+gone_then (Some a) (Some b) None n m s h k = tt
+gone_then (Some a) (Some b) (Some c) n m s h k = omega (arith, h, k)
+
+pub over_gone : (o p : Option (List ℕ)) (n : ℕ) → StaysTold o p → IsTaken o p n → IfSome p (λ t. 2 ^ 32 < n + length t) → IfSome o (λ s. max_script < length s)
+over_gone None p n s h k = tt
+over_gone (Some a) None n s h k = absurd (let t : false ≡ true = s.0 refl in cc)
+over_gone (Some a) (Some b) n s h k = omega (arith, h, k)
+
+pub read_gone : (o p : Option (List ℕ)) (xs : List ℕ) (n : ℕ) → length xs ≡ n → Consumes o p xs → IsTaken o p n
+read_gone None p xs n e h = tt
+read_gone (Some a) None xs n e h = tt
+read_gone (Some a) (Some b) xs n e h = omega (arith, e, ap length h, length-append xs b)
+
+pub rose_to : {a b x y : ℕ} → a ≡ x → b ≡ y → Rose a b → Rose x y
+rose_to e d r = omega (arith, e, d, r)

@@ -1,6 +1,6 @@
 -- Lines of a script that comes byte by byte: those that were ended, and the open one.
 use Rattle.std.proofs.Common.{◌≡◌, ℕ, ◌-◌, ◌<◌, Bool, true, false, List, [], ◌∷◌, ◌++◌, length, take, refl, sym, ap, ◌∙◌, arith}
-use Rattle.std.specs.Prelude.{cond, suc, zero, ◌==◌}
+use Rattle.std.specs.Prelude.{cond, suc, ◌==◌}
 use Rattle.lt_model.specs.Script.{pieces, script_lines, with_byte}
 use Rattle.lt_model.specs.Run.{lines_ended}
 use Rattle.lightning_cli.specs.Serving.{last_of_all, open_line}
@@ -107,28 +107,3 @@ end_open bytes = ap last_of_all (pieces_end bytes) ∙ last_more (pieces 10 byte
 
 pub end_ended : (bytes : List ℕ) → lines_ended (bytes ++ 10 ∷ []) ≡ lines_ended bytes ++ open_line bytes ∷ []
 end_ended bytes = ended_is (bytes ++ 10 ∷ []) ∙ ap but_last (pieces_end bytes) ∙ but_last_more (pieces 10 bytes) ∙ all_lines bytes
-
--- ---- the ended lines are first lines of the whole script
-
--- a front of a list
-abbrev pub Front : List (List ℕ) → List (List ℕ) → Type 0
-Front xs ys = (n : ℕ) × (xs ≡ take n ys)
-
-front_step : (c : ℕ) (t : Bool) (ps qs : List (List ℕ)) → 0 < length ps → 0 < length qs → Front (but_last ps) qs → Front (but_last (cond t ([] ∷ ps) (with_byte c ps))) (cond t ([] ∷ qs) (with_byte c qs))
-front_step c true [] qs h k f = absurd (omega (arith, h))
-front_step c true (p ∷ ps) qs h k f = (suc f.0, ap (λ x. [] ∷ x) f.1)
-front_step c false [] qs h k f = absurd (omega (arith, h))
-front_step c false (p ∷ ps) [] h k f = absurd (omega (arith, k))
-front_step c false (p ∷ []) (q ∷ qs) h k f = (0, refl)
-front_step c false (p ∷ r ∷ ps) (q ∷ qs) h k (zero, e) = absurd cc
-front_step c false (p ∷ r ∷ ps) (q ∷ qs) h k (suc n, e) =
-    let first : p ≡ q = cc in
-    let others : but_last (r ∷ ps) ≡ take n qs = cc in
-    (suc n, ap (λ x. (c ∷ x) ∷ but_last (r ∷ ps)) first ∙ ap (λ x. (c ∷ q) ∷ x) others)
-
-ended_pieces : (bytes more : List ℕ) → Front (but_last (pieces 10 bytes)) (pieces 10 (bytes ++ more))
-ended_pieces [] more = (0, refl)
-ended_pieces (c ∷ bytes) more = front_step c (c == 10) (pieces 10 bytes) (pieces 10 (bytes ++ more)) (some_pieces bytes) (some_pieces (bytes ++ more)) (ended_pieces bytes more)
-
-pub ended_first : (bytes more : List ℕ) → Front (lines_ended bytes) (script_lines (bytes ++ more))
-ended_first bytes more = let f = ended_pieces bytes more in (f.0, ended_is bytes ∙ f.1)

@@ -1,13 +1,15 @@
 -- How a call of the program ends where no script runs, and where one does.
 use Rattle.std.proofs.lemmas.Fmt.{decimal_digit}
 use Rattle.std.proofs.Common.{◌≡◌, ℕ, List, [], ◌∷◌, ◌++◌, refl, sym, ap, ◌∙◌, append-nil, arith, false, inl, inr, true}
-use Rattle.std.specs.Prelude.{codes, decimal}
+use Rattle.std.specs.Prelude.{IfSome, None, Option, Some, codes, decimal}
 use Rattle.lt_model.specs.Fair.{Feed, Grows}
 use Rattle.lt_model.specs.Reply.{text_line}
 use Rattle.lt_model.specs.Run.{StartFault, start_feed, start_mismatch, start_status, start_text, usage_text}
 use Rattle.lt_model.specs.Program.{IsFront, Told, cut_at_once, stops, stops_cut}
 use Rattle.lt_model.specs.OneTable.{Did, HasTaken, IsOneStream, NotBegun, is_run, not_begun, ran, usage, usage_cut}
+use Rattle.lt_model.specs.Outside.{FeedGrows, StaysTold}
 use Rattle.lightning_cli.specs.Serving.{Served}
+use Rattle.lightning_cli.proofs.TakeLaws.{taken_grows}
 
 -- ---- the fixed lines
 
@@ -73,6 +75,13 @@ begun old f = record { feed = f; script = old.script; written = old.written; cou
 
 pub none_taken : (f : Feed) → IsOneStream f → HasTaken f []
 none_taken f one = record { stream = one; rest = _; takes = refl }
+
+-- one stream stays one
+pub one_stays : (o p : Option Feed) → StaysTold o p → FeedGrows o p → IfSome o IsOneStream → IfSome p IsOneStream
+one_stays None None s h a = tt
+one_stays None (Some g) s h a = absurd (let e : false ≡ true = s.1 refl in cc)
+one_stays (Some f) None s h a = tt
+one_stays (Some f) (Some g) s h a = (taken_grows f g [] h (none_taken f a)).stream
 
 pub ran_did : (words : List (List ℕ)) (old new : Told) (f : Feed) {status : ℕ} → is_run words ≡ true → Grows old.feed f → IsOneStream f → Served (begun old f) new status → Did words old new status
 ran_did words old new f asked grows one s = record { trace = s.trace; took = s.took; wrote = s.wrote; ends = ran asked f grows one s.ends s.over }

@@ -7,12 +7,11 @@ use Rattle.lt_model.specs.Script.{Command, bad_line, max_line, skipped, spells_c
 use Rattle.lt_model.specs.Log.{Item}
 use Rattle.lt_model.specs.Reply.{bad_line_text}
 use Rattle.lt_model.specs.Machine.{State, is_broken}
-use Rattle.lt_model.specs.Program.{run_cause}
-use Rattle.lt_model.specs.OneTable.{HasTaken, line_read, only_rules, only_session, session_after}
+use Rattle.lt_model.specs.OneTable.{HasTaken, line_read, only_cause, only_rules, only_session, session_after}
 use Rattle.lt_laws.proofs.FrontLaws.{grows_itself}
-use Rattle.lt_model.specs.Run.{AreLater, Breaks, Counts, IsOver, LineRuns, LineRunsAs, Moment, Rules, Runs, run_text, state_after}
+use Rattle.lt_model.specs.Run.{AreLater, Breaks, Counts, LineRuns, LineRunsAs, Moment, Rules, Runs, counts_after, feed_after, run_text, state_after}
 use Rattle.lt_model.specs.Program.{IsFront}
-use Rattle.lightning_cli.specs.Serving.{HasRun, HasRunSome, Stands, counts_after, feed_after, kept_of, open_line, with_feed}
+use Rattle.lightning_cli.specs.Serving.{HasRun, HasRunSome, Stands, kept_of, open_line, with_feed}
 use Rattle.lightning_cli.proofs.PieceLaws.{byte_ended, byte_open, end_ended, end_open}
 use Rattle.lightning_cli.specs.Sessions.{Answered}
 
@@ -40,13 +39,8 @@ pub text_more : (ms : List Moment) (m : Moment) → run_text (ms ++ m ∷ []) �
 text_more [] m = append-nil m.text
 text_more (x ∷ ms) m = ap (λ t. x.text ++ t) (text_more ms m) ∙ sym (append_assoc x.text (run_text ms) m.text)
 
--- a run is over where it stands
-pub over_where : (f : Feed) (n : Counts) (ms : List Moment) (g : Feed) (m : Counts) → Grows (feed_after f ms) g → AreLater (counts_after n ms) m → IsOver f n ms g m
-over_where f n [] g m h l = (h, l)
-over_where f n (x ∷ ms) g m h l = over_where x.feed x.counts ms g m h l
-
 pub later_itself : (n : Counts) → AreLater n n
-later_itself n = record { feed = omega arith; disk = omega arith; writes = omega arith; out = omega arith; clock = omega arith }
+later_itself n = record { feed = omega arith; script = omega arith; disk = omega arith; writes = omega arith; out = omega arith; clock = omega arith }
 
 -- nothing breaks where no write failed
 pub breaks_nothing : (n m : Counts) (s t : State) → m.writes ≡ n.writes → is_broken t ≡ false → Breaks n m s t
@@ -75,7 +69,7 @@ more_run f0 n0 lines written f k items replies line m g j more h l feed_is count
 -- a line that adds a text, and leaves the feed and the session
 pub quiet_line : (f0 : Feed) (n0 : Counts) (lines : List (List ℕ)) (written : List ℕ) (f : Feed) (k : ℕ) (items : List Item) (replies line text : List ℕ)
     → HasRun f0 n0 lines written f k items replies
-    → LineRunsAs run_cause (with_feed n0 k) (session_after items) (line_read line) (record { feed = f; counts = with_feed n0 k; text = text; state = session_after items })
+    → LineRunsAs only_cause (with_feed n0 k) (session_after items) (line_read line) (record { feed = f; counts = with_feed n0 k; text = text; state = session_after items })
     → HasRun f0 n0 (lines ++ line ∷ []) written f k items (replies ++ text)
 quiet_line f0 n0 lines written f k items replies line text h r =
     let m : Moment = record { feed = f; counts = with_feed n0 k; text = text; state = session_after items } in
@@ -88,14 +82,14 @@ pub skipped_runs : {f0 : Feed} {n0 : Counts} {lines : List (List ℕ)} {written 
 skipped_runs {f0} {n0} {lines} {written} {f} {k} {items} {replies} line e h =
     subst (λ r. HasRun f0 n0 (lines ++ line ∷ []) written f k items r) (append-nil replies)
     (quiet_line f0 n0 lines written f k items replies line [] h
-    (subst (λ x. LineRunsAs run_cause (with_feed n0 k) (session_after items) x (record { feed = f; counts = with_feed n0 k; text = []; state = session_after items })) (sym e) (refl, refl)))
+    (subst (λ x. LineRunsAs only_cause (with_feed n0 k) (session_after items) x (record { feed = f; counts = with_feed n0 k; text = []; state = session_after items })) (sym e) (refl, refl, refl)))
 
 pub bad_runs : {f0 : Feed} {n0 : Counts} {lines : List (List ℕ)} {written : List ℕ} {f : Feed} {k : ℕ} {items : List Item} {replies : List ℕ} (line more : List ℕ)
     → line_read line ≡ bad_line → more ≡ replies ++ bad_line_text → HasRun f0 n0 lines written f k items replies → HasRun f0 n0 (lines ++ line ∷ []) written f k items more
 bad_runs {f0} {n0} {lines} {written} {f} {k} {items} {replies} line more e m h =
     subst (λ r. HasRun f0 n0 (lines ++ line ∷ []) written f k items r) (sym m)
     (quiet_line f0 n0 lines written f k items replies line bad_line_text h
-    (subst (λ x. LineRunsAs run_cause (with_feed n0 k) (session_after items) x (record { feed = f; counts = with_feed n0 k; text = bad_line_text; state = session_after items })) (sym e) (refl, refl)))
+    (subst (λ x. LineRunsAs only_cause (with_feed n0 k) (session_after items) x (record { feed = f; counts = with_feed n0 k; text = bad_line_text; state = session_after items })) (sym e) (refl, refl, refl)))
 
 pub command_runs : {f0 : Feed} {n0 : Counts} {lines : List (List ℕ)} {written : List ℕ} {f g : Feed} {k j : ℕ} {items more : List Item} {replies : List ℕ} (line text new : List ℕ) (c : Command)
     → line_read line ≡ spells_command c → Grows f g → k ≤ j → HasTaken g more → Answered k j items more c g text → new ≡ replies ++ text
@@ -107,8 +101,8 @@ command_runs {f0} {n0} {lines} {written} {f} {g} {k} {j} {items} {more} {replies
     (more_run f0 n0 lines written f k items replies line m g j more h
     (record {
       grows = grows;
-      later = record { feed = later; disk = omega arith; writes = omega arith; out = omega arith; clock = omega arith };
-      runs = subst (λ x. LineRunsAs run_cause (with_feed n0 k) (session_after items) x m) (sym e) r;
+      later = record { feed = later; script = omega arith; disk = omega arith; writes = omega arith; out = omega arith; clock = omega arith };
+      runs = subst (λ x. LineRunsAs only_cause (with_feed n0 k) (session_after items) x m) (sym e) r;
       breaks = breaks_nothing (with_feed n0 k) (with_feed n0 j) (session_after items) (session_after more) refl refl;
     })
     refl refl refl has)
@@ -165,35 +159,41 @@ pub stands_at : {f0 : Feed} {n0 : Counts} {written : List ℕ} {f : Feed} {k : �
 stands_at {f0} {n0} {written} {f} {k} {items} {replies} {kept} before now e s = subst (λ x. Stands f0 n0 x written f k items replies kept) e s
 
 pub feed_later : (n0 : Counts) (k j : ℕ) → k ≤ j → AreLater (with_feed n0 k) (with_feed n0 j)
-feed_later n0 k j h = record { feed = h; disk = omega arith; writes = omega arith; out = omega arith; clock = omega arith }
+feed_later n0 k j h = record { feed = h; script = omega arith; disk = omega arith; writes = omega arith; out = omega arith; clock = omega arith }
 
 -- where the run stands is where some first lines were answered
 pub has_run_some : {f0 : Feed} {n0 : Counts} {part written : List ℕ} {f : Feed} {k : ℕ} {items : List Item} {replies kept : List ℕ} (g : Feed) (j : ℕ) (bytes : List ℕ)
-    → IsFront part bytes → Grows f g → k ≤ j → Stands f0 n0 part written f k items replies kept → HasRunSome f0 n0 bytes written g j
+    → IsFront part bytes → Grows f g → k ≤ j → Stands f0 n0 part written f k items replies kept → HasRunSome f0 n0 bytes written g j 10
 has_run_some {f0} {n0} {part} {written} {f} {k} {items} {replies} g j bytes begins grows later s = record {
   part = part;
   begins = begins;
   moments = s.run.moments;
   runs = s.run.runs;
   front = (replies, s.run.text);
-  over = over_where f0 n0 s.run.moments g (with_feed n0 j) (subst (λ x. Grows x g) (sym s.run.feed) grows)
-      (subst (λ x. AreLater x (with_feed n0 j)) (sym s.run.counts) (feed_later n0 k j later));
+  over = record {
+    grows = subst (λ x. Grows x g) (sym s.run.feed) grows;
+    later = subst (λ x. AreLater x (with_feed n0 j)) (sym s.run.counts) (feed_later n0 k j later);
+    feed_kept = λ other. absurd (other refl);
+  };
 }
 
 pub front_of_bytes : (before bytes : List ℕ) (i : ℕ) → IsFront (before ++ take i bytes) (before ++ bytes)
 front_of_bytes before bytes i = (drop i bytes, ap (λ x. before ++ x) (sym (take-append-drop i bytes)) ∙ sym (append_assoc before (take i bytes) (drop i bytes)))
 
 -- the same where a front of the replies was written besides
-pub has_run_front : {f0 : Feed} {n0 : Counts} {part written : List ℕ} {f : Feed} {k : ℕ} {items : List Item} {replies kept : List ℕ} (g : Feed) (j : ℕ) (bytes front : List ℕ)
-    → IsFront part bytes → IsFront front replies → Grows f g → k ≤ j → Stands f0 n0 part written f k items replies kept → HasRunSome f0 n0 bytes (written ++ front) g j
-has_run_front {f0} {n0} {part} {written} {f} {k} {items} {replies} g j bytes front begins of_replies grows later s = record {
+pub has_run_front : {f0 : Feed} {n0 : Counts} {part written : List ℕ} {f : Feed} {k : ℕ} {items : List Item} {replies kept : List ℕ} (g : Feed) (bytes front : List ℕ)
+    → IsFront part bytes → IsFront front replies → Grows f g → Stands f0 n0 part written f k items replies kept → HasRunSome f0 n0 bytes (written ++ front) g k 4
+has_run_front {f0} {n0} {part} {written} {f} {k} {items} {replies} g bytes front begins of_replies grows s = record {
   part = part;
   begins = begins;
   moments = s.run.moments;
   runs = s.run.runs;
   front = (of_replies.0, s.run.text ∙ ap (λ x. written ++ x) of_replies.1 ∙ sym (append_assoc written front of_replies.0));
-  over = over_where f0 n0 s.run.moments g (with_feed n0 j) (subst (λ x. Grows x g) (sym s.run.feed) grows)
-      (subst (λ x. AreLater x (with_feed n0 j)) (sym s.run.counts) (feed_later n0 k j later));
+  over = record {
+    grows = subst (λ x. Grows x g) (sym s.run.feed) grows;
+    later = subst (λ x. AreLater x (with_feed n0 k)) (sym s.run.counts) (later_itself (with_feed n0 k));
+    feed_kept = λ other. sym (ap (λ (n : Counts). n.feed) s.run.counts);
+  };
 }
 
 pub front_itself : (bytes : List ℕ) → IsFront bytes bytes

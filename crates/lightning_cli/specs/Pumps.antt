@@ -1,5 +1,5 @@
 -- What a pump goes by.
-use Rattle.std.specs.Prelude.{Bool, List, drop, false, true, ℕ, ◌++◌, ◌≡◌}
+use Rattle.std.specs.Prelude.{Bool, List, drop, false, take, true, ℕ, ◌++◌, ◌≡◌}
 use Rattle.lt_model.specs.declared.Format.TheVariants as format
 use Rattle.lt_model.specs.Fair.{Feed, stream_bytes}
 use Rattle.lt_model.specs.Log.{Found, IsFound, malformed, partial, whole}
@@ -12,6 +12,10 @@ left_of a = drop a.at a.bytes.items
 -- the bytes stand in the stream from a place on
 abbrev pub IsAhead : Feed → ℕ → List ℕ → Type 0
 IsAhead feed at bytes = (rest : List ℕ) × (drop at (stream_bytes feed 0) ≡ bytes ++ rest)
+
+-- of the wanted bytes so many first ones stand in the stream from a place on; none only where not all stand there
+abbrev pub Matches : ℕ → Feed → ℕ → List ℕ → Type 0
+Matches n feed at want = IsAhead feed at (take n want) × (n ≡ 0 → IsAhead feed at want → ⊥)
 
 -- more bytes stand there; or none are left behind these
 abbrev pub More : Bool → Feed → ℕ → List ℕ → List ℕ → Type 0

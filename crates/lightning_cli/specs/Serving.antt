@@ -1,22 +1,13 @@
 -- How far a run of a script has come.
-use Rattle.std.specs.Prelude.{List, Option, Some, [], length, take, ℕ, ◌+◌, ◌++◌, ◌∷◌, ◌≡◌, ◌≤◌, ◌⊎◌}
+use Rattle.std.specs.Prelude.{IfSome, List, Option, Some, [], length, take, ℕ, ◌+◌, ◌++◌, ◌∷◌, ◌≡◌, ◌≤◌, ◌⊎◌}
 use Rattle.std.specs.Io.KnownBytes.{Appends}
 use Rattle.lt_model.specs.Fair.{Feed}
 use Rattle.lt_model.specs.Log.{Item}
 use Rattle.lt_model.specs.Outside.{StaysTold}
 use Rattle.lt_model.specs.Script.{max_line, script_lines}
-use Rattle.lt_model.specs.Run.{Counts, IsOver, Moment, Runs, lines_ended, run_text, state_after}
+use Rattle.lt_model.specs.Run.{Counts, IsOver, Moment, counts_after, feed_after, Runs, lines_ended, run_text, state_after}
 use Rattle.lt_model.specs.Program.{IsFront, RunEnds, Told, Trace}
 use Rattle.lt_model.specs.OneTable.{HasTaken, only_rules, only_session, session_after}
-
--- where a run stands behind some moments
-abbrev pub feed_after : Feed → List Moment → Feed
-feed_after f [] = f
-feed_after f (m ∷ ms) = feed_after m.feed ms
-
-abbrev pub counts_after : Counts → List Moment → Counts
-counts_after n [] = n
-counts_after n (m ∷ ms) = counts_after m.counts ms
 
 -- the counts, but for the feed's
 abbrev pub with_feed : Counts → ℕ → Counts
@@ -37,14 +28,15 @@ pub record HasRun (f0 : Feed) (n0 : Counts) (lines : List (List ℕ)) (written :
   pub has : HasTaken f items
   pub text : run_text moments ≡ written ++ replies
 
--- The lines that some first ones of these bytes end were answered, and what was written is a front of their text.
-pub record HasRunSome (f0 : Feed) (n0 : Counts) (bytes written : List ℕ) (f : Feed) (faults : ℕ) : Type 0 where
+-- The lines that some first ones of these bytes end were answered, what was written is a front of their text, and the run is over with
+-- this status.
+pub record HasRunSome (f0 : Feed) (n0 : Counts) (bytes written : List ℕ) (f : Feed) (faults status : ℕ) : Type 0 where
   pub part : List ℕ
   pub begins : IsFront part bytes
   pub moments : List Moment
   pub runs : Runs only_rules f0 n0 only_session (lines_ended part) moments
   pub front : IsFront written (run_text moments)
-  pub over : IsOver f0 n0 moments f (with_feed n0 faults)
+  pub over : IsOver f0 n0 moments status f (with_feed n0 faults)
 
 -- the first bytes of a line: as many as tell whether it is too long
 abbrev pub kept_of : List ℕ → List ℕ
@@ -64,10 +56,10 @@ pub record Stands (f0 : Feed) (n0 : Counts) (bytes written : List ℕ) (f : Feed
   pub run : HasRun f0 n0 (lines_ended bytes) written f faults items replies
   pub line : kept ≡ kept_of (open_line bytes)
 
--- what the objects tell, and the counts of the feed and the sink
-abbrev pub Sees : Option Feed → Option (List ℕ) → Option (List ℕ) → ℕ → ℕ → Told → Type 0
-Sees feed script written feed_faults out_faults t = (feed ≡ Some t.feed) × (script ≡ Some t.script) × (written ≡ Some t.written)
-    × (feed_faults ≡ t.counts.feed) × (out_faults ≡ t.counts.out)
+-- what the objects tell, and the counts of the feed, the sink and the script
+abbrev pub Sees : Option Feed → Option (List ℕ) → Option (List ℕ) → ℕ → ℕ → ℕ → Told → Type 0
+Sees feed script written feed_faults out_faults script_faults t = (feed ≡ Some t.feed) × (script ≡ Some t.script) × (written ≡ Some t.written)
+    × (feed_faults ≡ t.counts.feed) × (out_faults ≡ t.counts.out) × (script_faults ≡ t.counts.script)
 
 -- the disk was not used
 abbrev pub SameDisk : Counts → Counts → Type 0
@@ -81,6 +73,7 @@ pub record IsServing (old now : Told) (count : ℕ) (items : List Item) (replies
   pub took : old.script ≡ bytes ++ now.script
   pub wrote : now.written ≡ old.written ++ written
   pub out : now.counts.out ≡ old.counts.out
+  pub script : now.counts.script ≡ old.counts.script
   pub stands : Stands old.feed old.counts bytes written now.feed now.counts.feed items replies kept
 
 -- A run that is over, with this status.
@@ -88,13 +81,17 @@ pub record Served (old new : Told) (status : ℕ) : Type 0 where
   pub trace : Trace
   pub took : old.script ≡ trace.taken ++ new.script
   pub wrote : new.written ≡ old.written ++ trace.written
-  pub ends : RunEnds only_rules old.feed old.counts only_session old.script trace status
-  pub over : IsOver old.feed old.counts trace.moments new.feed new.counts
+  pub ends : RunEnds only_rules old.feed old.counts new.counts only_session old.script trace status
+  pub over : IsOver old.feed old.counts trace.moments status new.feed new.counts
 
 -- what some calls leave of an object that tells bytes: it tells on, and its count of faults did not fall
 pub record Goes (told told' : Option (List ℕ)) (faults faults' : ℕ) : Type 0 where
   pub stays : StaysTold told told'
   pub later : faults ≤ faults'
+
+-- so many bytes were taken, as far as they are told
+abbrev pub IsTaken : Option (List ℕ) → Option (List ℕ) → ℕ → Type 0
+IsTaken told told' n = IfSome told (λ s. IfSome told' (λ t. length s ≡ n + length t))
 
 -- the statuses that a run of a script ends with
 abbrev pub IsRunStatus : ℕ → Type 0

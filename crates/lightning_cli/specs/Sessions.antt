@@ -5,8 +5,7 @@ use Rattle.lt_model.specs.Fair.{Feed}
 use Rattle.lt_model.specs.Outside.{FeedGrows, StaysTold}
 use Rattle.lt_model.specs.Script.{Command}
 use Rattle.lt_model.specs.Run.{CommandRuns, Counts}
-use Rattle.lt_model.specs.Program.{run_cause}
-use Rattle.lt_model.specs.OneTable.{session_after}
+use Rattle.lt_model.specs.OneTable.{only_cause, session_after}
 use Rattle.lt_records.specs.View.{view_item}
 use Rattle.lightning_cli.specs.declared.session.Session.{Session}
 
@@ -17,7 +16,7 @@ taken s = map view_item s.items.items
 -- A text answers a command, whatever else was counted: the feed's count went so, and no write failed.
 abbrev pub Answered : ℕ → ℕ → List Item → List Item → Command → Feed → List ℕ → Type 0
 Answered before now old new c f text = (n m : Counts) → n.feed ≡ before → m.feed ≡ now → m.writes ≡ n.writes
-    → CommandRuns run_cause n (session_after old) c (record { feed = f; counts = m; text = text; state = session_after new })
+    → CommandRuns only_cause n (session_after old) c (record { feed = f; counts = m; text = text; state = session_after new })
 
 -- what some calls leave of a feed: it grew, and no count fell
 pub record FeedGoes (told told' : Option Feed) (known known' faults faults' : ℕ) : Type 0 where

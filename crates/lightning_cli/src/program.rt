@@ -1,10 +1,11 @@
 //! The program's top call: what it does by its words, and the status that it ends with.
 
-ghost use Rattle.std.specs.Prelude.{◌≡◌, ◌≤◌, ◌⊎◌, false, map, string_bytes, true};
+ghost use Rattle.std.specs.Prelude.{IfSome, ◌≡◌, ◌≢◌, ◌<◌, ◌≤◌, ◌⊎◌, false, length, map, string_bytes, true};
+ghost use Rattle.lt_model.specs.Run.{max_script};
 ghost use Rattle.lt_model.specs.Disk.{Rose};
-ghost use Rattle.lt_model.specs.OneTable.{Did, is_run, is_status};
-ghost use Rattle.lt_model.specs.Outside.{StaysTold};
-ghost use Rattle.lt_model.specs.Program.{IsCut, Tells, Told, counts_of};
+ghost use Rattle.lt_model.specs.OneTable.{Did, IsOneStream, is_run, is_status};
+ghost use Rattle.lt_model.specs.Outside.{FeedGrows, StaysTold};
+ghost use Rattle.lt_model.specs.Program.{Tells, Told, counts_of};
 
 use crate::output::finish;
 use crate::serve::serve;
@@ -30,19 +31,28 @@ pub fn run<D: Disk, F: Feed, S: Source, K: Sink>(
 ) -> u8
     // What was taken of the script, what was written, and what each line did: one trace, over objects that tell their content.
     ensures did { (old new : Told)
-        → Tells (F.told feed.old) (S.left script.old) (K.held out.old) (counts_of D.faults D.write_faults D.moment F.faults K.faults disk.old feed.old out.old) old
-        → Tells (F.told feed.new) (S.left script.new) (K.held out.new) (counts_of D.faults D.write_faults D.moment F.faults K.faults disk.new feed.new out.new) new
+        → Tells (F.told feed.old) (S.left script.old) (K.held out.old) (counts_of D.faults D.write_faults D.moment F.faults S.faults K.faults disk.old feed.old script.old out.old) old
+        → Tells (F.told feed.new) (S.left script.new) (K.held out.new) (counts_of D.faults D.write_faults D.moment F.faults S.faults K.faults disk.new feed.new script.new out.new) new
         → Did (map (λ w. string_bytes w) words.now) old new result }
 
     // Each status by its cause, whatever the objects tell.
     ensures statuses { is_status result ≡ true }
     ensures usage { result ≡ 2 → is_run (map (λ w. string_bytes w) words.now) ≡ false }
-    ensures other_words { is_run (map (λ w. string_bytes w) words.now) ≡ false → (result ≡ 2) ⊎ IsCut result }
+    ensures other_words { is_run (map (λ w. string_bytes w) words.now) ≡ false → (result ≡ 2) ⊎ (result ≡ 4) }
     ensures script_fault { result ≡ 3 → Rose (S.faults script.old) (S.faults script.new) }
     ensures out_fault { result ≡ 4 → Rose (K.faults out.old) (K.faults out.new) }
     ensures feed_fault { result ≡ 7 → Rose (F.faults feed.old) (F.faults feed.new) }
+    ensures mismatch { result ≡ 8 → (F.faults feed.new ≡ F.faults feed.old) × IfSome (F.told feed.new) (λ f. IsOneStream f → ⊥) }
+    ensures memory { result ≡ 10 → IfSome (F.told feed.new) IsOneStream }
+    ensures too_long { result ≡ 9 → IfSome (S.left script.old) (λ s. max_script < length s) }
 
-    // The disk is not used, no count falls, and no call changes whether an object tells its content.
+    // What failed shows: in the status, or where the last line was cut short.
+    ensures script_kept { result ≢ 3 → result ≢ 4 → S.faults script.new ≡ S.faults script.old }
+    ensures out_kept { result ≢ 4 → K.faults out.new ≡ K.faults out.old }
+
+    // The feed grows, and is not read for other words; the disk is not used, no count falls, and no call changes whether an object tells its content.
+    ensures grows { FeedGrows (F.told feed.old) (F.told feed.new) }
+    ensures idle { is_run (map (λ w. string_bytes w) words.now) ≡ false → (feed.new ≡ feed.old) × (script.new ≡ script.old) }
     ensures disk { disk.new ≡ disk.old }
     ensures later { (F.faults feed.old ≤ F.faults feed.new) × (S.faults script.old ≤ S.faults script.new) × (K.faults out.old ≤ K.faults out.new) }
     ensures told { StaysTold (F.told feed.old) (F.told feed.new) × StaysTold (S.left script.old) (S.left script.new) × StaysTold (K.held out.old) (K.held out.new) }

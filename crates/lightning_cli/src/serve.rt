@@ -2,10 +2,11 @@
 //!
 //! A run ends where the script does, where it is too long, or where a device fails or memory is lacking.
 
-ghost use Rattle.std.specs.Prelude.{◌≡◌, ◌+◌, ◌<◌, ◌≤◌, ◌^◌, ◌++◌, ◌⊎◌, [], ℕ, List, Some, length};
+ghost use Rattle.std.specs.Prelude.{IfSome, ◌≢◌, ◌≡◌, ◌+◌, ◌<◌, ◌≤◌, ◌^◌, ◌++◌, ◌⊎◌, [], ℕ, List, Some, length};
 ghost use Rattle.lt_model.specs.Disk.{Rose};
 ghost use Rattle.lt_model.specs.Program.{Told};
-ghost use Rattle.lightning_cli.specs.Serving.{Goes, IsRunStatus, IsServing, SameDisk, Sees, Served};
+ghost use Rattle.lt_model.specs.Run.{max_script};
+ghost use Rattle.lightning_cli.specs.Serving.{Goes, IsRunStatus, IsServing, IsTaken, SameDisk, Sees, Served};
 ghost use Rattle.lt_model.specs.OneTable.{HasTaken};
 ghost use Rattle.lightning_cli.specs.Sessions.{FeedGoes, taken};
 ghost use Rattle.lightning_cli.specs.Turns.{IfMore, IfOver};
@@ -40,11 +41,12 @@ pub enum Turn {
 fn end<F: Feed, K: Sink>(server: &mut Server, alloc: Global, feed: &mut F, out: &mut K) -> u8
     requires known { 0 < F.known feed.old }
     requires written { server.old.replies.items ≡ [] }
-    ensures served { (old mid now : Told) (count : ℕ) → Sees (F.told feed.old) (Some mid.script) (K.held out.old) (F.faults feed.old) (K.faults out.old) mid
-        → Sees (F.told feed.new) (Some now.script) (K.held out.new) (F.faults feed.new) (K.faults out.new) now
+    ensures served { (old mid now : Told) (count : ℕ) → Sees (F.told feed.old) (Some mid.script) (K.held out.old) (F.faults feed.old) (K.faults out.old) mid.counts.script mid
+        → Sees (F.told feed.new) (Some now.script) (K.held out.new) (F.faults feed.new) (K.faults out.new) mid.counts.script now
         → mid.script ≡ [] → now.script ≡ [] → SameDisk old.counts now.counts → count ≤ 2 ^ 32
         → IsServing old mid count (taken server.old.session) server.old.replies.items server.old.line.items → Served old now result }
     ensures cause { result ≡ 4 → Rose (K.faults out.old) (K.faults out.new) }
+    ensures kept { result ≢ 4 → K.faults out.new ≡ K.faults out.old }
     ensures statuses { (result ≡ 0) ⊎ (result ≡ 4) ⊎ (result ≡ 10) }
     ensures feed { FeedGoes (F.told feed.old) (F.told feed.new) (F.known feed.old) (F.known feed.new) (F.faults feed.old) (F.faults feed.new) }
     ensures out { Goes (K.held out.old) (K.held out.new) (K.faults out.old) (K.faults out.new) }
@@ -65,11 +67,12 @@ fn cut<F: Feed, K: Sink>(
 ) -> u8
     requires known { 0 < F.known feed.old }
     requires written { server.old.replies.items ≡ [] }
-    ensures served { (old mid now : Told) (count : ℕ) (more : List ℕ) → Sees (F.told feed.old) (Some mid.script) (K.held out.old) (F.faults feed.old) (K.faults out.old) mid
-        → Sees (F.told feed.new) (Some now.script) (K.held out.new) (F.faults feed.new) (K.faults out.new) now
+    ensures served { (old mid now : Told) (count : ℕ) (more : List ℕ) → Sees (F.told feed.old) (Some mid.script) (K.held out.old) (F.faults feed.old) (K.faults out.old) mid.counts.script mid
+        → Sees (F.told feed.new) (Some now.script) (K.held out.new) (F.faults feed.new) (K.faults out.new) mid.counts.script now
         → mid.script ≡ (bytes.now ++ more) ++ now.script → count + length bytes.now ≡ 2 ^ 32 → 0 < length more → SameDisk old.counts now.counts
         → IsServing old mid count (taken server.old.session) server.old.replies.items server.old.line.items → Served old now result }
     ensures cause { result ≡ 4 → Rose (K.faults out.old) (K.faults out.new) }
+    ensures kept { result ≢ 4 → K.faults out.new ≡ K.faults out.old }
     ensures statuses { (result ≡ 4) ⊎ (result ≡ 9) ⊎ (result ≡ 10) }
     ensures feed { FeedGoes (F.told feed.old) (F.told feed.new) (F.known feed.old) (F.known feed.new) (F.faults feed.old) (F.faults feed.new) }
     ensures out { Goes (K.held out.old) (K.held out.new) (K.faults out.old) (K.faults out.new) }
@@ -94,15 +97,16 @@ fn digest<F: Feed, K: Sink>(
     requires known { 0 < F.known feed.old }
     requires written { server.old.replies.items ≡ [] }
     requires some { 0 < length piece.now }
-    ensures more { IfMore result (λ n. (n ≡ length piece.now) × (server.new.replies.items ≡ [])) }
-    ensures goes_on { (old mid now : Told) (count : ℕ) → Sees (F.told feed.old) (Some mid.script) (K.held out.old) (F.faults feed.old) (K.faults out.old) mid
-        → Sees (F.told feed.new) (Some now.script) (K.held out.new) (F.faults feed.new) (K.faults out.new) now
+    ensures more { IfMore result (λ n. (n ≡ length piece.now) × (server.new.replies.items ≡ []) × (K.faults out.new ≡ K.faults out.old)) }
+    ensures goes_on { (old mid now : Told) (count : ℕ) → Sees (F.told feed.old) (Some mid.script) (K.held out.old) (F.faults feed.old) (K.faults out.old) mid.counts.script mid
+        → Sees (F.told feed.new) (Some now.script) (K.held out.new) (F.faults feed.new) (K.faults out.new) mid.counts.script now
         → mid.script ≡ piece.now ++ now.script → IsServing old mid count (taken server.old.session) server.old.replies.items server.old.line.items
         → IfMore result (λ n. IsServing old now (count + n) (taken server.new.session) [] server.new.line.items) }
-    ensures served { (old mid now : Told) (count : ℕ) → Sees (F.told feed.old) (Some mid.script) (K.held out.old) (F.faults feed.old) (K.faults out.old) mid
-        → Sees (F.told feed.new) (Some now.script) (K.held out.new) (F.faults feed.new) (K.faults out.new) now
-        → mid.script ≡ piece.now ++ now.script → SameDisk old.counts now.counts → IsServing old mid count (taken server.old.session) server.old.replies.items server.old.line.items → IfOver result (Served old now) }
+    ensures served { (old mid now : Told) (count : ℕ) → Sees (F.told feed.old) (Some mid.script) (K.held out.old) (F.faults feed.old) (K.faults out.old) mid.counts.script mid
+        → Sees (F.told feed.new) (Some now.script) (K.held out.new) (F.faults feed.new) (K.faults out.new) mid.counts.script now
+        → mid.script ≡ piece.now ++ now.script → count + length piece.now ≤ 2 ^ 32 → SameDisk old.counts now.counts → IsServing old mid count (taken server.old.session) server.old.replies.items server.old.line.items → IfOver result (Served old now) }
     ensures cause { IfOver result (λ status. status ≡ 4 → Rose (K.faults out.old) (K.faults out.new)) }
+    ensures kept { IfOver result (λ status. status ≢ 4 → K.faults out.new ≡ K.faults out.old) }
     ensures statuses { IfOver result (λ status. (status ≡ 4) ⊎ (status ≡ 10)) }
     ensures feed { FeedGoes (F.told feed.old) (F.told feed.new) (F.known feed.old) (F.known feed.new) (F.faults feed.old) (F.faults feed.new) }
     ensures out { Goes (K.held out.old) (K.held out.new) (K.faults out.old) (K.faults out.new) }
@@ -129,14 +133,19 @@ fn take_piece<F: Feed, S: Source, K: Sink>(
     requires written { server.old.replies.items ≡ [] }
     requires short { count ≤ 2 ^ 32 }
     ensures more { IfMore result (λ n. (0 < n) × (count + n ≤ 2 ^ 32) × (server.new.replies.items ≡ [])) }
-    ensures goes_on { (old mid now : Told) → Sees (F.told feed.old) (S.left script.old) (K.held out.old) (F.faults feed.old) (K.faults out.old) mid
-        → Sees (F.told feed.new) (S.left script.new) (K.held out.new) (F.faults feed.new) (K.faults out.new) now
+    ensures left { IfMore result (IsTaken (S.left script.old) (S.left script.new)) }
+    ensures unfailed { IfMore result (λ n. (K.faults out.new ≡ K.faults out.old) × (S.faults script.new ≡ S.faults script.old)) }
+    ensures goes_on { (old mid now : Told) → Sees (F.told feed.old) (S.left script.old) (K.held out.old) (F.faults feed.old) (K.faults out.old) (S.faults script.old) mid
+        → Sees (F.told feed.new) (S.left script.new) (K.held out.new) (F.faults feed.new) (K.faults out.new) (S.faults script.new) now
         → IsServing old mid count (taken server.old.session) server.old.replies.items server.old.line.items → IfMore result (λ n. IsServing old now (count + n) (taken server.new.session) [] server.new.line.items) }
-    ensures served { (old mid now : Told) → Sees (F.told feed.old) (S.left script.old) (K.held out.old) (F.faults feed.old) (K.faults out.old) mid
-        → Sees (F.told feed.new) (S.left script.new) (K.held out.new) (F.faults feed.new) (K.faults out.new) now
+    ensures served { (old mid now : Told) → Sees (F.told feed.old) (S.left script.old) (K.held out.old) (F.faults feed.old) (K.faults out.old) (S.faults script.old) mid
+        → Sees (F.told feed.new) (S.left script.new) (K.held out.new) (F.faults feed.new) (K.faults out.new) (S.faults script.new) now
         → SameDisk old.counts now.counts → IsServing old mid count (taken server.old.session) server.old.replies.items server.old.line.items → IfOver result (Served old now) }
     ensures script_fault { IfOver result (λ status. status ≡ 3 → Rose (S.faults script.old) (S.faults script.new)) }
     ensures out_fault { IfOver result (λ status. status ≡ 4 → Rose (K.faults out.old) (K.faults out.new)) }
+    ensures too_long { IfOver result (λ status. status ≡ 9 → IfSome (S.left script.old) (λ s. 2 ^ 32 < count + length s)) }
+    ensures script_kept { IfOver result (λ status. status ≢ 3 → status ≢ 4 → S.faults script.new ≡ S.faults script.old) }
+    ensures out_kept { IfOver result (λ status. status ≢ 4 → K.faults out.new ≡ K.faults out.old) }
     ensures statuses { IfOver result IsRunStatus }
     ensures feed { FeedGoes (F.told feed.old) (F.told feed.new) (F.known feed.old) (F.known feed.new) (F.faults feed.old) (F.faults feed.new) }
     ensures script { Goes (S.left script.old) (S.left script.new) (S.faults script.old) (S.faults script.new) }
@@ -167,11 +176,14 @@ pub fn serve<F: Feed, S: Source, K: Sink>(
 ) -> u8
     requires known { 0 < F.known feed.old }
     requires fresh { taken session ≡ [] }
-    ensures served { (old now : Told) → Sees (F.told feed.old) (S.left script.old) (K.held out.old) (F.faults feed.old) (K.faults out.old) old
-        → Sees (F.told feed.new) (S.left script.new) (K.held out.new) (F.faults feed.new) (K.faults out.new) now
+    ensures served { (old now : Told) → Sees (F.told feed.old) (S.left script.old) (K.held out.old) (F.faults feed.old) (K.faults out.old) (S.faults script.old) old
+        → Sees (F.told feed.new) (S.left script.new) (K.held out.new) (F.faults feed.new) (K.faults out.new) (S.faults script.new) now
         → SameDisk old.counts now.counts → HasTaken old.feed [] → Served old now result }
     ensures script_fault { result ≡ 3 → Rose (S.faults script.old) (S.faults script.new) }
     ensures out_fault { result ≡ 4 → Rose (K.faults out.old) (K.faults out.new) }
+    ensures too_long { result ≡ 9 → IfSome (S.left script.old) (λ s. max_script < length s) }
+    ensures script_kept { result ≢ 3 → result ≢ 4 → S.faults script.new ≡ S.faults script.old }
+    ensures out_kept { result ≢ 4 → K.faults out.new ≡ K.faults out.old }
     ensures statuses { IsRunStatus result }
     ensures feed { FeedGoes (F.told feed.old) (F.told feed.new) (F.known feed.old) (F.known feed.new) (F.faults feed.old) (F.faults feed.new) }
     ensures script { Goes (S.left script.old) (S.left script.new) (S.faults script.old) (S.faults script.new) }

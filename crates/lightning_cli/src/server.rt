@@ -73,7 +73,7 @@ impl Server {
             → OnOk result (Stands f0 n0 (before ++ bytes.now) written g (F.faults feed.new) (taken self.new.session) self.new.replies.items self.new.line.items) }
         ensures err { (f g f0 : Streams) (n0 : Counts) (before written : List ℕ) → F.told feed.old ≡ Some f → F.told feed.new ≡ Some g
             → Stands f0 n0 before written f (F.faults feed.old) (taken self.old.session) self.old.replies.items self.old.line.items
-            → OnErr result (HasRunSome f0 n0 (before ++ bytes.now) written g (F.faults feed.new)) }
+            → OnErr result (HasRunSome f0 n0 (before ++ bytes.now) written g (F.faults feed.new) 10) }
         ensures feed { FeedGoes (F.told feed.old) (F.told feed.new) (F.known feed.old) (F.known feed.new) (F.faults feed.old) (F.faults feed.new) }
     {
         for byte in bytes {

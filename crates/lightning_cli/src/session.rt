@@ -99,8 +99,9 @@ impl Session {
     /// Begins a session behind the header of the feed's one stream.
     pub fn attach<F: Feed>(alloc: Global, feed: &mut F) -> Result<Session, AttachRefusal>
         ensures ok { IfOk result (λ s. (taken s ≡ []) × (0 < F.known feed.new) × IfSome (F.told feed.new) IsOneStream) }
-        ensures mismatch { IsErrOf result AttachRefusal.Mismatch → IfSome (F.told feed.new) (λ f. IsOneStream f → ⊥) }
+        ensures mismatch { IsErrOf result AttachRefusal.Mismatch → (F.faults feed.new ≡ F.faults feed.old) × IfSome (F.told feed.new) (λ f. IsOneStream f → ⊥) }
         ensures fault { IsErrOf result AttachRefusal.Feed → Rose (F.faults feed.old) (F.faults feed.new) }
+        ensures no_memory { IsErrOf result AttachRefusal.Memory → ⊥ }
         ensures kept { OnOk result (F.faults feed.new ≡ F.faults feed.old) }
         ensures feed { FeedGoes (F.told feed.old) (F.told feed.new) (F.known feed.old) (F.known feed.new) (F.faults feed.old) (F.faults feed.new) }
     {

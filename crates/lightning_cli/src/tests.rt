@@ -103,44 +103,58 @@ fn worked_runs(rt: HostRuntime) -> Result<(), Fail> {
 
 #[test]
 fn each_call_fails_in_turn(rt: HostRuntime) -> Result<(), Fail> {
-    // The feed is asked for its streams and for each byte of the header, and then read twice by the pump.
-    for call in 1..20u64 {
-        let ends = ends_so(
-            rt,
-            "run",
-            LOG,
-            SCRIPT,
-            &[call],
-            &[],
-            &[],
-            7,
-            b"stopped 7 FeedFault\n",
-        )?;
-        assert!(rt; ends, "at call {call}");
-    }
-    let rows: [(&[u8], [&[u64]; 3], u8, &[u8]); 6] = [
+    // The feed is asked for its streams and for the header, and then read twice by the pump.
+    let rows: [(&str, &[u8], [&[u64]; 3], u8, &[u8]); 10] = [
+        ("run", SCRIPT, [&[1], &[], &[]], 7, b"stopped 7 FeedFault\n"),
+        ("run", SCRIPT, [&[2], &[], &[]], 7, b"stopped 7 FeedFault\n"),
         (
+            "run",
             b"pump 0 10\npump 0 10\n",
-            [&[20], &[], &[]],
+            [&[3], &[], &[]],
             0,
             b"refused E23 FeedFault\nok pump 0 records 2 offset 84 checkpoint 7 stop End\n",
         ),
         (
+            "run",
             b"pump 0 10\npump 0 10\n",
-            [&[21], &[], &[]],
+            [&[4], &[], &[]],
             0,
             b"refused E23 FeedFault\nok pump 0 records 0 offset 84 checkpoint 7 stop End\n",
         ),
-        (SCRIPT, [&[], &[1], &[]], 3, b"stopped 3 ScriptFault\n"),
-        (SCRIPT, [&[], &[2], &[]], 3, CUT),
-        (SCRIPT, [&[], &[], &[1]], 4, b""),
-        (SCRIPT, [&[], &[2], &[2]], 4, REPLIES),
+        (
+            "run",
+            SCRIPT,
+            [&[], &[1], &[]],
+            3,
+            b"stopped 3 ScriptFault\n",
+        ),
+        ("run", SCRIPT, [&[], &[2], &[]], 3, CUT),
+        ("run", SCRIPT, [&[], &[], &[1]], 4, b""),
+        ("run", SCRIPT, [&[], &[2], &[2]], 4, REPLIES),
+        ("run", SCRIPT, [&[1], &[], &[1]], 4, b""),
+        ("gen", SCRIPT, [&[], &[], &[1]], 4, b""),
     ];
-    for (row, (script, [feed, source, out], status, text)) in rows.into_iter().enumerate() {
+    for (row, (word, script, [feed, source, out], status, text)) in rows.into_iter().enumerate() {
         assert!(rt;
-            ends_so(rt, "run", LOG, script, feed, source, out, status, text)?,
+            ends_so(rt, word, LOG, script, feed, source, out, status, text)?,
             "row {row}"
         );
     }
+    Ok(())
+}
+
+#[test]
+fn long_lines_and_bytes_that_are_no_text(rt: HostRuntime) -> Result<(), Fail> {
+    let alloc = rt.alloc();
+    // A comment of the greatest length and one that is longer; one that is no text, and what follows them.
+    let mut script = Vec::new(alloc);
+    for length in [1048576usize, 1048577] {
+        script.push(b'#')?;
+        script.resize(script.len() + length - 1, b'x')?;
+        script.push(b'\n')?;
+    }
+    script.extend_from_slice(b"#\xff\nscan t 1 1")?;
+    let text = b"refused E1 BadLine\nrefused E1 BadLine\nrefused E13 NotSafe 0 0\n";
+    assert!(rt; ends_so(rt, "run", LOG, script.as_slice(), &[], &[], &[], 0, text)?);
     Ok(())
 }

@@ -36,6 +36,8 @@ impl Session {
             × IfOk result (λ p. Pumped g (taken self.old) (taken self.new) count p.0 (view_stop p.1)) }
         ensures some { (f g : Streams) → F.told feed.old ≡ Some f → F.told feed.new ≡ Some g → HasTaken f (taken self.old) → OnErr result (PumpedSome g (taken self.old) (taken self.new) count) }
         ensures fault { IsErrOf result PumpFault.Feed → Rose (F.faults feed.old) (F.faults feed.new) }
+        ensures kept { OnOk result (F.faults feed.new ≡ F.faults feed.old) }
+        ensures lacks { IsErrOf result PumpFault.Memory → F.faults feed.new ≡ F.faults feed.old }
         ensures feed { FeedGoes (F.told feed.old) (F.told feed.new) (F.known feed.old) (F.known feed.new) (F.faults feed.old) (F.faults feed.new) }
     {
         let mut ahead = Ahead::new(alloc);
@@ -58,10 +60,12 @@ impl Session {
         requires place { self.old.offset + length (left_of ahead.old) < 2 ^ 63 }
         ensures place { OnOk result (self.new.offset + length (left_of ahead.new) < 2 ^ 63) }
         ensures one { IfOk result (TakesOne (taken self.old) (taken self.new)) }
-        ensures kept { OnErr result (taken self.new ≡ taken self.old) }
+        ensures unmoved { OnErr result (taken self.new ≡ taken self.old) }
         ensures taken { (f g : Streams) → F.told feed.old ≡ Some f → F.told feed.new ≡ Some g → HasTaken f (taken self.old) → IsAhead f self.old.offset (left_of ahead.old) → HasTaken g (taken self.new)
             × IfOk result (Stepped g (taken self.new) self.new.offset (left_of ahead.new)) }
         ensures fault { IsErrOf result PumpFault.Feed → Rose (F.faults feed.old) (F.faults feed.new) }
+        ensures kept { OnOk result (F.faults feed.new ≡ F.faults feed.old) }
+        ensures lacks { IsErrOf result PumpFault.Memory → F.faults feed.new ≡ F.faults feed.old }
         ensures feed { FeedGoes (F.told feed.old) (F.told feed.new) (F.known feed.old) (F.known feed.new) (F.faults feed.old) (F.faults feed.new) }
     {
         match find(alloc, self.offset, ahead, feed)? {

@@ -64,6 +64,8 @@ pub fn find<F: Feed>(
     ensures found { (f g : Streams) → F.told feed.old ≡ Some f → F.told feed.new ≡ Some g → IsAhead f offset (left_of ahead.old) → IfOk result (λ found. FoundAhead g offset (left_of ahead.new) (view_found found)) }
     ensures whole { IfOk result (λ found. IsWhole (view_found found) (left_of ahead.new)) }
     ensures fault { IsErrOf result PumpFault.Feed → Rose (F.faults feed.old) (F.faults feed.new) }
+    ensures kept { OnOk result (F.faults feed.new ≡ F.faults feed.old) }
+    ensures lacks { IsErrOf result PumpFault.Memory → F.faults feed.new ≡ F.faults feed.old }
     ensures feed { FeedGoes (F.told feed.old) (F.told feed.new) (F.known feed.old) (F.known feed.new) (F.faults feed.old) (F.faults feed.new) }
 {
     for _ in 0..u64::MAX {
@@ -91,6 +93,8 @@ fn more<F: Feed>(
     ensures place { OnOk result (offset + length (left_of ahead.new) < 2 ^ 63) }
     ensures more { (f g : Streams) → F.told feed.old ≡ Some f → F.told feed.new ≡ Some g → IsAhead f offset (left_of ahead.old) → IfOk result (λ some. More some g offset (left_of ahead.old) (left_of ahead.new)) }
     ensures fault { IsErrOf result PumpFault.Feed → Rose (F.faults feed.old) (F.faults feed.new) }
+    ensures kept { OnOk result (F.faults feed.new ≡ F.faults feed.old) }
+    ensures lacks { IsErrOf result PumpFault.Memory → F.faults feed.new ≡ F.faults feed.old }
     ensures feed { FeedGoes (F.told feed.old) (F.told feed.new) (F.known feed.old) (F.known feed.new) (F.faults feed.old) (F.faults feed.new) }
 {
     let mut piece = new_piece(alloc)?;
@@ -126,6 +130,8 @@ fn read_behind<F: Feed>(
     ensures bound { IfOk result (λ n. (n ≤ length piece.new) × (0 < n → offset + length (left_of ahead.now) + n < 2 ^ 63)) }
     ensures bytes { IfOk result (λ n. FeedReads (F.told feed.new) 0 (offset + length (left_of ahead.now)) piece.new n) }
     ensures fault { IsErrOf result PumpFault.Feed → Rose (F.faults feed.old) (F.faults feed.new) }
+    ensures kept { OnOk result (F.faults feed.new ≡ F.faults feed.old) }
+    ensures lacks { IsErrOf result PumpFault.Memory → F.faults feed.new ≡ F.faults feed.old }
     ensures feed { FeedGoes (F.told feed.old) (F.told feed.new) (F.known feed.old) (F.known feed.new) (F.faults feed.old) (F.faults feed.new) }
 {
     let at = offset + ahead.left().len() as u64;

@@ -3,9 +3,9 @@ use Rattle.std.specs.Prelude.{IfSome, codes}
 use Rattle.lt_model.specs.Disk.{Rose}
 use Rattle.lt_model.specs.Run.{start_feed, start_mismatch}
 use Rattle.lt_model.specs.OneTable.{Did, IsOneStream}
-use Rattle.lightning_cli.proofs.FeedLaws.{told_grew, told_on}
+use Rattle.lightning_cli.proofs.FeedLaws.{goes_itself, goes_then, told_grew, told_on}
 use Rattle.lightning_cli.proofs.OutLaws.{appended, by_finish, told_same}
-use Rattle.lightning_cli.proofs.ProgramLaws.{begun, feed_fault_is, lacked_did, mismatch_is, none_taken, ran_did, stopped_did, stopped_did_cut, usage_did, usage_did_cut, usage_is}
+use Rattle.lightning_cli.proofs.ProgramLaws.{begun, feed_fault_is, lacked_did, mismatch_is, none_taken, one_stays, ran_did, stopped_did, stopped_did_cut, usage_did, usage_did_cut, usage_is}
 use Rattle.lightning_cli.proofs.program.run.Goals as goal
 
 pub returns-then-not-asks_run-clause-did : goal.returns-then-not-asks_run-clause-did
@@ -18,6 +18,12 @@ returns-then-not-asks_run-clause-did g c old new tells tells' =
     (λ a. usage_did words old new other script (appended _ _ _ _ line tells.2 tells'.2 a ∙ ap (λ x. old.written ++ x) usage_is))
     (λ front begins a. usage_did_cut words old new front other (begins.0, sym usage_is ∙ begins.1) script (appended _ _ _ _ front tells.2 tells'.2 a))
 
+pub returns-then-not-asks_run-clause-grows : goal.returns-then-not-asks_run-clause-grows
+returns-then-not-asks_run-clause-grows g c = (goes_itself _ 0 0).grows
+
+pub returns-in-Ok-clause-grows : goal.returns-in-Ok-clause-grows
+returns-in-Ok-clause-grows g c = (goes_then _ _ _ _ _ _ _ _ _ c.attach.ensures.feed c.serve.ensures.feed).grows
+
 pub returns-in-Ok-clause-did : goal.returns-in-Ok-clause-did
 returns-in-Ok-clause-did g c old new tells tells' =
     let words = map (λ w. string_bytes w) c.args.words.now in
@@ -27,8 +33,8 @@ returns-in-Ok-clause-did g c old new tells tells' =
     let one = subst (λ x. IfSome x IsOneStream) f.1 c.in-Ok.ensures.ok.2 in
     ran_did words old new f.0 asked (told_grew _ _ old.feed f.0 tells.0 f.1 attached.grows) one
     (c.serve.ensures.served (begun old f.0) new
-    (f.1, tells.1, tells.2, c.in-Ok.ensures.kept ∙ ap (λ n. n.feed) tells.3, ap (λ n. n.out) tells.3)
-    (tells'.0, tells'.1, tells'.2, ap (λ n. n.feed) tells'.3, ap (λ n. n.out) tells'.3)
+    (f.1, tells.1, tells.2, c.in-Ok.ensures.kept ∙ ap (λ n. n.feed) tells.3, ap (λ n. n.out) tells.3, ap (λ n. n.script) tells.3)
+    (tells'.0, tells'.1, tells'.2, ap (λ n. n.feed) tells'.3, ap (λ n. n.out) tells'.3, ap (λ n. n.script) tells'.3)
     (sym (ap (λ n. n.disk) tells'.3) ∙ ap (λ n. n.disk) tells.3, sym (ap (λ n. n.writes) tells'.3) ∙ ap (λ n. n.writes) tells.3, sym (ap (λ n. n.clock) tells'.3) ∙ ap (λ n. n.clock) tells.3)
     (none_taken f.0 one))
 
@@ -37,7 +43,7 @@ returns-in-Err-Mismatch-clause-did g c old new tells tells' =
     let words = map (λ w. string_bytes w) c.args.words.now in
     let asked = sym c.asks_run.ensures ∙ c.if-not-asks_run.false in
     let script = told_same _ old.script new.script tells.1 tells'.1 in
-    let none = subst (λ x. IfSome x (λ f. IsOneStream f → ⊥)) tells'.0 (c.attach.ensures.mismatch (c.in-Err-Mismatch.is ∙ ap Err c.in-Err-Mismatch.field-0-is)) in
+    let none = subst (λ x. IfSome x (λ f. IsOneStream f → ⊥)) tells'.0 (c.attach.ensures.mismatch (c.in-Err-Mismatch.is ∙ ap Err c.in-Err-Mismatch.field-0-is)).1 in
     let line = codes "stopped 8 FeedMismatch 0\n" in
     let f = c.finish-in-Err-Mismatch.ensures in
     by_finish _ _ _ _ (Did words old new) c.finish-in-Err-Mismatch.result 8 line f.all f.front
@@ -59,3 +65,9 @@ returns-in-Err-Feed-clause-did g c old new tells tells' =
 pub returns-in-Err-Memory-clause-did : goal.returns-in-Err-Memory-clause-did
 returns-in-Err-Memory-clause-did g c old new tells tells' =
     lacked_did (map (λ w. string_bytes w) c.args.words.now) old new (sym c.asks_run.ensures ∙ c.if-not-asks_run.false) (told_same _ old.script new.script tells.1 tells'.1) (told_same _ old.written new.written tells.2 tells'.2)
+
+pub returns-in-Ok-clause-memory : goal.returns-in-Ok-clause-memory
+returns-in-Ok-clause-memory g c e = one_stays _ _ c.serve.ensures.feed.stays c.serve.ensures.feed.grows c.in-Ok.ensures.ok.2
+
+pub returns-in-Err-Memory-clause-memory : goal.returns-in-Err-Memory-clause-memory
+returns-in-Err-Memory-clause-memory g c e = absurd (c.attach.ensures.no_memory (c.in-Err-Memory.is ∙ ap Err c.in-Err-Memory.field-0-is))

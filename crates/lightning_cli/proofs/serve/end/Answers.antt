@@ -4,7 +4,7 @@ use Rattle.lightning_cli.specs.Serving.{Served, open_line}
 use Rattle.lightning_cli.proofs.FeedLaws.{told_grew}
 use Rattle.lightning_cli.proofs.OutLaws.{appended, by_finish, ok_of, told_same, wrote_more}
 use Rattle.lightning_cli.proofs.RunLaws.{front_itself, has_run_some, run_at}
-use Rattle.lightning_cli.proofs.ServeLaws.{all_cut, all_served, some_served}
+use Rattle.lightning_cli.proofs.ServeLaws.{all_cut, all_served, part_short, some_served}
 use Rattle.lightning_cli.proofs.serve.end.Goals as goal
 
 pub returns-then-is_err-clause-served : goal.returns-then-is_err-clause-served
@@ -12,8 +12,9 @@ returns-then-is_err-clause-served g c old mid now count seen seen' at_end at_end
     let e = c.answer.ensures in
     let grows = told_grew _ _ mid.feed now.feed seen.0 seen'.0 e.feed.grows in
     let later : mid.counts.feed ≤ now.counts.feed = omega (arith, e.feed.later, seen.3, seen'.3) in
-    some_served old now s.bytes s.written now.feed now.counts.feed 10 (has_run_some now.feed now.counts.feed s.bytes (front_itself s.bytes) grows later s.stands) (inr refl)
-    refl (s.took ∙ ap (λ x. s.bytes ++ x) (at_end ∙ sym at_end')) (told_same _ mid.written now.written seen.2 seen'.2 ∙ s.wrote) (omega arith) (omega (arith, s.out, seen.4, seen'.4)) disk
+    let some = has_run_some now.feed now.counts.feed s.bytes (front_itself s.bytes) grows later s.stands in
+    some_served old now s.bytes s.written now.feed now.counts.feed 10 some (part_short some (omega (arith, s.number, short))) (inr refl)
+    refl (s.took ∙ ap (λ x. s.bytes ++ x) (at_end ∙ sym at_end')) (told_same _ mid.written now.written seen.2 seen'.2 ∙ s.wrote) refl (omega (arith, s.out, seen.4, seen'.4)) (omega (arith, s.script, seen'.5)) disk
 
 pub returns-clause-served : goal.returns-clause-served
 returns-clause-served g c old mid now count seen seen' at_end at_end' disk short s =
@@ -24,6 +25,7 @@ returns-clause-served g c old mid now count seen seen' at_end at_end' disk short
     let whole = s.took ∙ ap (λ x. s.bytes ++ x) at_end ∙ append-nil s.bytes in
     let few : length s.bytes ≤ 2 ^ 32 = omega (arith, s.number, short) in
     let out : old.counts.out ≤ now.counts.out = omega (arith, s.out, seen.4, seen'.4, f.later) in
+    let script : old.counts.script ≤ now.counts.script = omega (arith, s.script, seen'.5) in
     by_finish _ _ _ _ (Served old now) c.finish.result 0 c.replies.result.now f.all f.front
-    (λ a. all_served old now s.bytes s.written last whole at_end' few (wrote_more old.written mid.written s.written now.written _ _ s.wrote (appended _ _ _ _ _ seen.2 seen'.2 a) c.replies.ensures) out disk)
-    (λ front begins a. all_cut old now s.bytes s.written front last (begins.0, sym c.replies.ensures ∙ begins.1) whole at_end' (wrote_more old.written mid.written s.written now.written _ _ s.wrote (appended _ _ _ _ _ seen.2 seen'.2 a) refl) out disk)
+    (λ a. all_served old now s.bytes s.written last whole at_end' few (wrote_more old.written mid.written s.written now.written _ _ s.wrote (appended _ _ _ _ _ seen.2 seen'.2 a) c.replies.ensures) out script disk)
+    (λ front begins a. all_cut old now s.bytes s.written front last (begins.0, sym c.replies.ensures ∙ begins.1) whole at_end' few (wrote_more old.written mid.written s.written now.written _ _ s.wrote (appended _ _ _ _ _ seen.2 seen'.2 a) refl) out script disk)

@@ -1,7 +1,7 @@
 use Rattle.std.proofs.Common.{◌≡◌, ◌≤◌, ◌^◌, []}
 use Rattle.lt_model.specs.OneTable.{HasTaken}
 use Rattle.lt_model.specs.Program.{Told}
-use Rattle.lightning_cli.specs.Serving.{Goes, IsServing, Sees}
+use Rattle.lightning_cli.specs.Serving.{Goes, IsServing, IsTaken, Sees}
 use Rattle.lightning_cli.specs.Sessions.{FeedGoes, taken}
 use Rattle.lightning_cli.proofs.serve.serve.Given as goal
 
@@ -17,7 +17,9 @@ invariant-loop g l =
       feed : FeedGoes (F.told l.fn.feed) (F.told l.feed) (F.known l.fn.feed) (F.known l.feed) (F.faults l.fn.feed) (F.faults l.feed);
       script : Goes (S.left l.fn.script) (S.left l.script) (S.faults l.fn.script) (S.faults l.script);
       out : Goes (K.held l.fn.out) (K.held l.out) (K.faults l.fn.out) (K.faults l.out);
-      serving : (old now : Told) → Sees (F.told l.fn.feed) (S.left l.fn.script) (K.held l.fn.out) (F.faults l.fn.feed) (K.faults l.fn.out) old
-          → Sees (F.told l.feed) (S.left l.script) (K.held l.out) (F.faults l.feed) (K.faults l.out) now
+      left : IsTaken (S.left l.fn.script) (S.left l.script) l.count;
+      unfailed : (K.faults l.out ≡ K.faults l.fn.out) × (S.faults l.script ≡ S.faults l.fn.script);
+      serving : (old now : Told) → Sees (F.told l.fn.feed) (S.left l.fn.script) (K.held l.fn.out) (F.faults l.fn.feed) (K.faults l.fn.out) (S.faults l.fn.script) old
+          → Sees (F.told l.feed) (S.left l.script) (K.held l.out) (F.faults l.feed) (K.faults l.out) (S.faults l.script) now
           → HasTaken old.feed [] → IsServing old now l.count (taken l.server.session) l.server.replies.items l.server.line.items;
     }

@@ -14,6 +14,7 @@ loop-records-init g c = record {
   place = omega (arith, c.args.self.now.small, ap length c.new-ahead.ensures);
   more = ([], sym (append-nil (taken c.args.self.now)), refl);
   stands = λ f h d e t. begins_empty (g.F.Feed.told c.args.feed.now) f h (taken c.args.self.now) c.args.self.now.offset (left_of c.new-ahead.result) d e c.new-ahead.ensures t;
+  kept = refl;
   goes = goes_itself _ _ _;
 }
 
@@ -30,7 +31,7 @@ returns-in_err-stop-clause-some g c f h d e t =
     let i = c.loop-records.invariant.stands f mid.0 d mid.1 t in
     let more = c.loop-records.invariant.more in
     on_err c.from_residual.result (pumped_some h (taken c.args.self.now) (taken c.step.new.self) more.0 c.args.count c.loop-records.records (c.step.ensures.taken mid.0 h mid.1 e i.0 i.1).0
-    (c.in_err-stop.ensures.kept ∙ more.1) more.2 c.loop-records-test.true)
+    (c.in_err-stop.ensures.unmoved ∙ more.1) more.2 c.loop-records-test.true)
 
 pub returns-in_err-stop-clause-feed : goal.returns-in_err-stop-clause-feed
 returns-in_err-stop-clause-feed g c = goes_then _ _ _ _ _ _ _ _ _ c.loop-records.invariant.goes c.step.ensures.feed
@@ -64,6 +65,7 @@ loop-records-preserved g c =
           let i = c.loop-records.invariant.stands f mid.0 d mid.1 t in
           let s = c.in_ok-stop.ensures.taken mid.0 h mid.1 e i.0 i.1 in
           (s.0, stepped_none h (taken c.step.new.self) c.step.new.self.offset (left_of c.step.new.ahead) c.in_ok-stop.field-0 none s.1);
+      kept = c.in_ok-stop.ensures.kept ∙ c.loop-records.invariant.kept;
       goes = goes_then _ _ _ _ _ _ _ _ _ c.loop-records.invariant.goes c.step.ensures.feed;
     }
 

@@ -1,4 +1,4 @@
-use Rattle.std.proofs.Common.{subst, arith}
+use Rattle.std.proofs.Common.{arith, refl, subst, ◌∙◌}
 use Rattle.lightning_cli.specs.Pumps.{More, left_of}
 use Rattle.lt_model.specs.declared.Format.TheVariants as format
 use Rattle.lt_model.specs.Log.{IsFound, partial}
@@ -12,6 +12,7 @@ loop-init g c = record {
   known = c.requires.known;
   place = c.requires.place;
   reads = λ f h old new a. same_feed (g.F.Feed.told c.args.feed.now) f h c.args.offset (left_of c.args.ahead.now) old new a;
+  kept = refl;
   goes = goes_itself _ _ _;
 }
 
@@ -26,15 +27,17 @@ returns-then-not-branch-clause-found g c f h old new a =
     let mid = mid_told (g.F.Feed.told c.args.feed.now) (g.F.Feed.told c.loop.feed) f c.loop.invariant.goes.stays old in
     let m = c.in_ok-more-in-Partial.ensures.more mid.0 h mid.1 new (c.loop.invariant.reads f mid.0 old mid.1 a) in
     found_all h c.args.offset (left_of c.loop.ahead) (left_of c.more.new.ahead) (subst (λ b. More b h c.args.offset (left_of c.loop.ahead) (left_of c.more.new.ahead)) c.if-not-branch.true m)
-    (subst (λ b. IsFound format.One b partial) c.left.ensures (subst (λ x. IsFound format.One c.left.result.now (view_found x)) c.in-Partial.is c.in_ok-found.ensures))
+    (subst (λ b. IsFound format.One b partial) c.left.ensures (subst (λ x. IsFound format.One c.left.result.now (view_found x)) c.in-Partial.is c.in_ok-found.ensures.found))
 
 pub returns-in_default : goal.returns-in_default
 returns-in_default g c = record {
   place = c.loop.invariant.place;
   found = λ f h old new a. found_ahead h c.args.offset (left_of c.loop.ahead) (view_found c.in_ok-found.found) (c.loop.invariant.reads f h old new a) (λ e. c.in_default.not-Partial (view_partial c.in_ok-found.found e))
-      (subst (λ b. IsFound format.One b (view_found c.in_ok-found.found)) c.left.ensures c.in_ok-found.ensures);
-  whole = whole_of (left_of c.loop.ahead) (view_found c.in_ok-found.found) (subst (λ b. IsFound format.One b (view_found c.in_ok-found.found)) c.left.ensures c.in_ok-found.ensures);
+      (subst (λ b. IsFound format.One b (view_found c.in_ok-found.found)) c.left.ensures c.in_ok-found.ensures.found);
+  whole = whole_of (left_of c.loop.ahead) (view_found c.in_ok-found.found) (subst (λ b. IsFound format.One b (view_found c.in_ok-found.found)) c.left.ensures c.in_ok-found.ensures.found);
   fault = λ e. absurd cc;
+  kept = c.loop.invariant.kept;
+  lacks = λ e. c.loop.invariant.kept;
   feed = c.loop.invariant.goes;
 }
 
@@ -44,5 +47,6 @@ loop-preserved g c = record {
   place = c.in_ok-more-in-Partial.ensures.place;
   reads = λ f h old new a. let mid = mid_told (g.F.Feed.told c.args.feed.now) (g.F.Feed.told c.loop.feed) f c.loop.invariant.goes.stays old in
       subst (λ b. More b h c.args.offset (left_of c.loop.ahead) (left_of c.more.new.ahead)) c.if-not-branch.false (c.in_ok-more-in-Partial.ensures.more mid.0 h mid.1 new (c.loop.invariant.reads f mid.0 old mid.1 a));
+  kept = c.in_ok-more-in-Partial.ensures.kept ∙ c.loop.invariant.kept;
   goes = goes_then _ _ _ _ _ _ _ _ _ c.loop.invariant.goes c.more.ensures.feed;
 }
