@@ -14,14 +14,14 @@ use Rattle.lt_model.specs.OneTable.{HasTaken, IsOneStream, only_catalogue, only_
 use Rattle.lt_model.specs.Query.{answer, interval}
 use Rattle.lt_model.specs.Reply.{Refusal, Stop, feed_fault, not_safe, out_fault, out_of_memory, pump_done, refusal_text, reply_text, too_old}
 use Rattle.lt_model.specs.Row.{snapshot}
-use Rattle.lt_model.specs.Run.{AfterFault, Counts, answer_text, is_fault, is_pump_fault, may_end_in}
+use Rattle.lt_model.specs.Run.{AfterFault, Counts, answer_text, calls_feed, is_fault, is_pump_fault, may_end_in}
 use Rattle.lt_model.specs.Schema.{Registered, when}
 use Rattle.lt_model.specs.Script.{Command, do_pump, do_scan}
 use Rattle.lt_model.specs.Sound.{Fronts, source_of}
 use Rattle.lt_laws.proofs.FrontStands.{front_stands}
 use Rattle.lt_laws.proofs.TakenLaws.{are_taken, begins_behind, moved_append, moved_behind, safe_snapshot, stream_behind, taken_is_front, with_items_append}
 use Rattle.lightning_cli.specs.Scans.{AreFair}
-use Rattle.lightning_cli.specs.Sessions.{Answered}
+use Rattle.lightning_cli.specs.Sessions.{Answered, FeedCounts}
 use Rattle.lightning_cli.specs.Stops.{Pumped, PumpedSome}
 
 -- ---- the items that were taken
@@ -91,14 +91,15 @@ the_front g one = let f = front_stands g only_catalogue only_header 0 refl one.h
 -- ---- what is answered
 
 -- by a step of the machine, over the source of the front
-pub step_answered : (k : ℕ) (old new : List Item) (c : Command) (g : Feed) (f : TheFront g) (a : Answer) → a.reply ≢ Err out_fault
-    → Step g (source_of ((only_header, f.items) ∷ [])) (session_after old) c a (session_after new) → Answered k k old new c g (answer_text (session_after old) c a)
-step_answered k old new c g f a goes step n m e d w = record {
+pub step_answered : (k j : FeedCounts) (old new : List Item) (c : Command) (g : Feed) (f : TheFront g) (a : Answer) → j.0 ≡ k.0 → (calls_feed c ≡ false → j.1 ≡ k.1) → a.reply ≢ Err out_fault
+    → Step g (source_of ((only_header, f.items) ∷ [])) (session_after old) c a (session_after new) → Answered k j old new c g (answer_text (session_after old) c a)
+step_answered k j old new c g f a kept quiet goes step n m e d w = record {
   answer = a;
   text = refl;
   answers = ((only_header, f.items) ∷ [], f.fronts, inl step);
   goes_on = goes;
-  feed_failed = λ l. absurd (omega (arith, e, d, l));
+  feed_failed = λ l. absurd (omega (arith, ap (λ x. x.0) e, ap (λ x. x.0) d, kept, l));
+  not_called = λ q. ap (λ x. x.1) d ∙ quiet q ∙ sym (ap (λ x. x.1) e);
   write_failed = λ l. absurd (omega (arith, w, l));
 }
 
@@ -143,26 +144,27 @@ pump_does g source old new count records stop p = (
   (standing new, refl, ap (λ (n : ℕ). replies (pump_done 0 n (standing new).offset (standing new).point.checkpoint stop)) (sym p.number)),
 )
 
-pub pump_answered : (k : ℕ) (g : Feed) (old new : List Item) (count records : ℕ) (stop : Stop) → HasTaken g old → Pumped g old new count records stop
-    → Answered k k old new (do_pump 0 count) g (reply_text (pump_done 0 records (standing new).offset (standing new).point.checkpoint stop))
-pump_answered k g old new count records stop h p =
+pub pump_answered : (k j : FeedCounts) → j.0 ≡ k.0 → (g : Feed) (old new : List Item) (count records : ℕ) (stop : Stop) → HasTaken g old → Pumped g old new count records stop
+    → Answered k j old new (do_pump 0 count) g (reply_text (pump_done 0 records (standing new).offset (standing new).point.checkpoint stop))
+pump_answered k j kept g old new count records stop h p =
     let f = the_front g h.stream in
-    step_answered k old new (do_pump 0 count) g f (replies (pump_done 0 records (standing new).offset (standing new).point.checkpoint stop)) (λ e. cc)
+    step_answered k j old new (do_pump 0 count) g f (replies (pump_done 0 records (standing new).offset (standing new).point.checkpoint stop)) kept (λ q. absurd cc) (λ e. cc)
     (done_step g (source_of ((only_header, f.items) ∷ [])) (session_after old) (do_pump 0 count) (replies (pump_done 0 records (standing new).offset (standing new).point.checkpoint stop)) (session_after new) (pump_not_refused old count) (pump_does g (source_of ((only_header, f.items) ∷ [])) old new count records stop p))
 
 -- ---- faults
 
 -- in place of an answer to a command that is not refused, or for want of memory
-pub fault_answered : (before now : ℕ) (old new : List Item) (c : Command) (g : Feed) (f : TheFront g) (r : Refusal) → (refuses r).reply ≢ Err out_fault → IsTrue (is_fault r) → IsTrue (may_end_in c r)
-    → ((n m : Counts) → n.feed ≡ before → m.feed ≡ now → only_cause n m g (session_after old) c r)
+pub fault_answered : (before now : FeedCounts) (old new : List Item) (c : Command) (g : Feed) (f : TheFront g) (r : Refusal) → (refuses r).reply ≢ Err out_fault → IsTrue (is_fault r) → IsTrue (may_end_in c r)
+    → ((n m : Counts) → n.feed ≡ before.0 → m.feed ≡ now.0 → only_cause n m g (session_after old) c r)
     → AfterFault g (source_of ((only_header, f.items) ∷ [])) (session_after old) c r (session_after new)
-    → (((r ≡ out_of_memory) × ((refuses r).rows ≡ [])) ⊎ (refused (session_after old) c ≡ None)) → (before < now → (refuses r).reply ≡ Err feed_fault) → Answered before now old new c g (refusal_text r)
-fault_answered before now old new c g f r goes fault ends cause after lets failed n m e d w = record {
+    → (((r ≡ out_of_memory) × ((refuses r).rows ≡ [])) ⊎ (refused (session_after old) c ≡ None)) → (before.0 < now.0 → (refuses r).reply ≡ Err feed_fault) → (calls_feed c ≡ false → now.1 ≡ before.1) → Answered before now old new c g (refusal_text r)
+fault_answered before now old new c g f r goes fault ends cause after lets failed quiet n m e d w = record {
   answer = refuses r;
   text = refl;
-  answers = ((only_header, f.items) ∷ [], f.fronts, inr (r, refl, fault, ends, cause n m e d, inl refl, after, lets));
+  answers = ((only_header, f.items) ∷ [], f.fronts, inr (r, refl, fault, ends, cause n m (ap (λ x. x.0) e) (ap (λ x. x.0) d), inl refl, after, lets));
   goes_on = goes;
-  feed_failed = λ l. failed (omega (arith, e, d, l));
+  feed_failed = λ l. failed (omega (arith, ap (λ x. x.0) e, ap (λ x. x.0) d, l));
+  not_called = λ q. ap (λ x. x.1) d ∙ quiet q ∙ sym (ap (λ x. x.1) e);
   write_failed = λ l. absurd (omega (arith, w, l));
 }
 
@@ -173,16 +175,16 @@ took_some g source old new count r e p = inr (inl (e, (standing old, p.more.item
 rose_at : (k j a b : ℕ) → a ≡ k → b ≡ j → Rose k j → Rose a b
 rose_at k j a b e d r = subst (λ (x : ℕ). Rose x b) (sym e) (subst (λ (x : ℕ). Rose k x) (sym d) r)
 
-pub pump_failed : (k j : ℕ) (g : Feed) (old new : List Item) (count : ℕ) → HasTaken g old → PumpedSome g old new count → Rose k j → Answered k j old new (do_pump 0 count) g (refusal_text feed_fault)
-pump_failed k j g old new count h p rose = fault_answered k j old new (do_pump 0 count) g (the_front g h.stream) feed_fault (λ e. cc) refl refl (λ n m e d. rose_at k j n.feed m.feed e d rose)
-    (took_some g (source_of ((only_header, (the_front g h.stream).items) ∷ [])) old new count feed_fault refl p) (inr (pump_not_refused old count)) (λ l. refl)
+pub pump_failed : (k j : FeedCounts) (g : Feed) (old new : List Item) (count : ℕ) → HasTaken g old → PumpedSome g old new count → Rose k.0 j.0 → Answered k j old new (do_pump 0 count) g (refusal_text feed_fault)
+pump_failed k j g old new count h p rose = fault_answered k j old new (do_pump 0 count) g (the_front g h.stream) feed_fault (λ e. cc) refl refl (λ n m e d. rose_at k.0 j.0 n.feed m.feed e d rose)
+    (took_some g (source_of ((only_header, (the_front g h.stream).items) ∷ [])) old new count feed_fault refl p) (inr (pump_not_refused old count)) (λ l. refl) (λ q. absurd cc)
 
-pub pump_lacked : (k : ℕ) (g : Feed) (old new : List Item) (count : ℕ) → HasTaken g old → PumpedSome g old new count → Answered k k old new (do_pump 0 count) g (refusal_text out_of_memory)
-pump_lacked k g old new count h p = fault_answered k k old new (do_pump 0 count) g (the_front g h.stream) out_of_memory (λ e. cc) refl refl (λ n m e d. tt)
-    (took_some g (source_of ((only_header, (the_front g h.stream).items) ∷ [])) old new count out_of_memory refl p) (inr (pump_not_refused old count)) (λ l. absurd (omega (arith, l)))
+pub pump_lacked : (k j : FeedCounts) → j.0 ≡ k.0 → (g : Feed) (old new : List Item) (count : ℕ) → HasTaken g old → PumpedSome g old new count → Answered k j old new (do_pump 0 count) g (refusal_text out_of_memory)
+pump_lacked k j kept g old new count h p = fault_answered k j old new (do_pump 0 count) g (the_front g h.stream) out_of_memory (λ e. cc) refl refl (λ n m e d. tt)
+    (took_some g (source_of ((only_header, (the_front g h.stream).items) ∷ [])) old new count out_of_memory refl p) (inr (pump_not_refused old count)) (λ l. absurd (omega (arith, kept, l))) (λ q. absurd cc)
 
-pub scan_lacked : (k : ℕ) (g : Feed) (items : List Item) (at : ℕ) → HasTaken g items → Answered k k items items (do_scan (scan_query at)) g (refusal_text out_of_memory)
-scan_lacked k g items at h = fault_answered k k items items (do_scan (scan_query at)) g (the_front g h.stream) out_of_memory (λ e. cc) refl refl (λ n m e d. tt) (inl refl) (inl (refl, refl)) (λ l. absurd (omega (arith, l)))
+pub scan_lacked : (k : FeedCounts) (g : Feed) (items : List Item) (at : ℕ) → HasTaken g items → Answered k k items items (do_scan (scan_query at)) g (refusal_text out_of_memory)
+scan_lacked k g items at h = fault_answered k k items items (do_scan (scan_query at)) g (the_front g h.stream) out_of_memory (λ e. cc) refl refl (λ n m e d. tt) (inl refl) (inl (refl, refl)) (λ l. absurd (omega (arith, l))) (λ q. refl)
 
 -- ---- when a scan is refused
 
@@ -256,12 +258,12 @@ scan_refused items at b f e =
     ∙ refused_at (place_after only_header items) (point_of only_header items) (pending_after items) at b (ap (λ (n : ℕ). nat_lt n at) (point_checkpoint items) ∙ e)
     ∙ ap (λ (n : ℕ). cond b (Some (not_safe 0 n)) None) (point_checkpoint items)
 
-pub scan_not_safe : (k : ℕ) (g : Feed) (items : List Item) (at : ℕ) → HasTaken g items → checkpoint_of only_header items < at
+pub scan_not_safe : (k : FeedCounts) (g : Feed) (items : List Item) (at : ℕ) → HasTaken g items → checkpoint_of only_header items < at
     → Answered k k items items (do_scan (scan_query at)) g (refusal_text (not_safe 0 (checkpoint_of only_header items)))
 scan_not_safe k g items at h l =
     let f = the_front g h.stream in
     let r = not_safe 0 (checkpoint_of only_header items) in
-    step_answered k items items (do_scan (scan_query at)) g f (refuses r) (λ e. cc)
+    step_answered k k items items (do_scan (scan_query at)) g f (refuses r) refl (λ q. refl) (λ e. cc)
     (refused_step g (source_of ((only_header, f.items) ∷ [])) (session_after items) (do_scan (scan_query at)) r (scan_refused items at true (fair_taken g items h) (is_below (checkpoint_of only_header items) at l)))
 
 -- ---- a scan that is safe
@@ -283,10 +285,10 @@ scan_does : (g : Feed) (source : List Change) (items : List Item) (at : ℕ) →
     → Does g source (session_after items) (do_scan (scan_query at)) (scan_answer items at) (session_after items)
 scan_does g source items at e = ((only_table, only_registered, refl, refl, ap (answer only_table only_version.columns (scan_query at)) e), refl, refl)
 
-pub scan_answered : (k : ℕ) (g : Feed) (items : List Item) (at : ℕ) → HasTaken g items → at ≤ checkpoint_of only_header items → Answered k k items items (do_scan (scan_query at)) g (scan_text items at)
+pub scan_answered : (k : FeedCounts) (g : Feed) (items : List Item) (at : ℕ) → HasTaken g items → at ≤ checkpoint_of only_header items → Answered k k items items (do_scan (scan_query at)) g (scan_text items at)
 scan_answered k g items at h l =
     let f = the_front g h.stream in
     let source = source_of ((only_header, f.items) ∷ []) in
-    step_answered k items items (do_scan (scan_query at)) g f (scan_answer items at) (λ e. cc)
+    step_answered k k items items (do_scan (scan_query at)) g f (scan_answer items at) refl (λ q. refl) (λ e. cc)
     (done_step g source (session_after items) (do_scan (scan_query at)) (scan_answer items at) (session_after items) (scan_refused items at false (fair_taken g items h) (not_below (checkpoint_of only_header items) at l))
     (scan_does g source items at (same_snapshot g items at h f l)))

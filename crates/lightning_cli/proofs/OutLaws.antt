@@ -4,7 +4,7 @@ use Rattle.std.proofs.lemmas.List.{take-take}
 use Rattle.std.proofs.Common.{Bool, take-append-drop, eqb-true, false, subst, true, ◌≡◌, ℕ, ◌+◌, ◌<◌, ◌^◌, ◌≤◌, length, length-append, List, [], ◌∷◌, ◌++◌, take, drop, refl, sym, ap, ◌∙◌, append_assoc, append-nil, arith}
 use Rattle.std.proofs.lemmas.Fmt.{decimal_digit}
 use Rattle.lt_model.specs.Disk.{Rose}
-use Rattle.lt_model.specs.Outside.{StaysTold}
+use Rattle.lt_model.specs.Outside.{FailsAt, StaysTold}
 use Rattle.lt_model.specs.Reply.{text_line}
 use Rattle.lt_model.specs.Run.{max_script, script_fault_text, too_long_text}
 use Rattle.std.specs.Prelude.{Err, IfSome, codes, is_some, None, Ok, OnErr, OnOk, is_err, ◌==◌, Option, Result, Some}
@@ -102,6 +102,10 @@ pub cut_bytes : (n room : ℕ) (xs : List ℕ) → room ≤ n → take n xs ≡ 
 cut_bytes n room xs h = sym (take-append-drop room (take n xs)) ∙ ap (λ z. z ++ drop room (take n xs)) (take-take room n xs h)
 
 -- ---- what calls leave of a source or a sink
+
+-- where nothing failed before
+pub fails_from : (told : Option (List ℕ)) (a b c : Option ℕ) → b ≡ a → FailsAt told b c → FailsAt told a c
+fails_from told a b c e h = subst (λ x. FailsAt told x c) e h
 
 pub out_goes : (told : Option (List ℕ)) (faults : ℕ) → Goes told told faults faults
 out_goes told faults = record { stays = (λ h. h, λ h. h); later = omega arith }

@@ -1,10 +1,10 @@
 -- How a call of the program ends where no script runs, and where one does.
 use Rattle.std.proofs.lemmas.Fmt.{decimal_digit}
-use Rattle.std.proofs.Common.{◌≡◌, ℕ, List, [], ◌∷◌, ◌++◌, refl, sym, ap, ◌∙◌, append-nil, arith, false, inl, inr, true}
+use Rattle.std.proofs.Common.{◌≡◌, ◌≤◌, ℕ, List, [], ◌∷◌, ◌++◌, refl, sym, ap, ◌∙◌, append-nil, arith, false, inr, true}
 use Rattle.std.specs.Prelude.{IfSome, None, Option, Some, codes, decimal}
 use Rattle.lt_model.specs.Fair.{Feed, Grows}
 use Rattle.lt_model.specs.Reply.{text_line}
-use Rattle.lt_model.specs.Run.{StartFault, start_feed, start_mismatch, start_status, start_text, usage_text}
+use Rattle.lt_model.specs.Run.{HasBegun, StartFault, start_feed, start_mismatch, start_status, start_text, usage_text}
 use Rattle.lt_model.specs.Program.{IsFront, Told, cut_at_once, stops, stops_cut}
 use Rattle.lt_model.specs.OneTable.{Did, HasTaken, IsOneStream, NotBegun, is_run, not_begun, ran, usage, usage_cut}
 use Rattle.lt_model.specs.Outside.{FeedGrows, StaysTold}
@@ -38,7 +38,7 @@ usage_did_cut words old new front other begins script wrote = record {
   trace = record { taken = []; written = front; moments = [] };
   took = sym script;
   wrote = wrote;
-  ends = usage_cut other (inl refl) begins refl refl;
+  ends = usage_cut other refl begins refl refl;
 }
 
 -- ---- no session begins
@@ -56,7 +56,7 @@ stopped_did_cut words old new e front asked caused begins script wrote = record 
   trace = record { taken = []; written = front; moments = [] };
   took = sym script;
   wrote = wrote;
-  ends = not_begun asked (stops_cut e caused (inl refl) begins) refl refl;
+  ends = not_begun asked (stops_cut e caused refl begins) refl refl;
 }
 
 pub lacked_did : (words : List (List ℕ)) (old new : Told) → is_run words ≡ true → new.script ≡ old.script → new.written ≡ old.written → Did words old new 10
@@ -69,9 +69,9 @@ lacked_did words old new asked script written = record {
 
 -- ---- a script runs
 
--- what the objects tell where the session begins
-abbrev pub begun : Told → Feed → Told
-begun old f = record { feed = f; script = old.script; written = old.written; counts = old.counts }
+-- what the objects tell and count where the session begins
+abbrev pub begun : Told → Feed → ℕ → Told
+begun old f calls = record { feed = f; script = old.script; written = old.written; counts = record old.counts { calls = calls } }
 
 pub none_taken : (f : Feed) → IsOneStream f → HasTaken f []
 none_taken f one = record { stream = one; rest = _; takes = refl }
@@ -83,5 +83,9 @@ one_stays None (Some g) s h a = absurd (let e : false ≡ true = s.1 refl in cc)
 one_stays (Some f) None s h a = tt
 one_stays (Some f) (Some g) s h a = (taken_grows f g [] h (none_taken f a)).stream
 
-pub ran_did : (words : List (List ℕ)) (old new : Told) (f : Feed) {status : ℕ} → is_run words ≡ true → Grows old.feed f → IsOneStream f → Served (begun old f) new status → Did words old new status
-ran_did words old new f asked grows one s = record { trace = s.trace; took = s.took; wrote = s.wrote; ends = ran asked f grows one s.ends s.over }
+pub ran_did : (words : List (List ℕ)) (old new : Told) (f : Feed) (calls : ℕ) {status : ℕ} → is_run words ≡ true → Grows old.feed f → old.counts.calls ≤ calls → IsOneStream f → Served (begun old f calls) new status
+    → Did words old new status
+ran_did words old new f calls asked grows later one s =
+    let n = record old.counts { calls = calls } in
+    let begins : HasBegun old.counts n = record { feed = refl; calls = later; script = refl; disk = refl; writes = refl; out = refl; clock = omega arith } in
+    record { trace = s.trace; took = s.took; wrote = s.wrote; ends = ran asked f n grows begins one s.ends s.over }

@@ -13,7 +13,7 @@ use Rattle.lt_model.specs.Run.{AreLater, Breaks, Counts, LineRuns, LineRunsAs, M
 use Rattle.lt_model.specs.Program.{IsFront}
 use Rattle.lightning_cli.specs.Serving.{HasRun, HasRunSome, Stands, kept_of, open_line, with_feed}
 use Rattle.lightning_cli.proofs.PieceLaws.{byte_ended, byte_open, end_ended, end_open}
-use Rattle.lightning_cli.specs.Sessions.{Answered}
+use Rattle.lightning_cli.specs.Sessions.{Answered, FeedCounts, FeedLater}
 
 -- the lines run, and then one more
 pub runs_more : (rules : Rules) (f : Feed) (n : Counts) (s : State) (lines : List (List ℕ)) (ms : List Moment) (line : List ℕ) (m : Moment) → Runs rules f n s lines ms
@@ -40,7 +40,10 @@ text_more [] m = append-nil m.text
 text_more (x ∷ ms) m = ap (λ t. x.text ++ t) (text_more ms m) ∙ sym (append_assoc x.text (run_text ms) m.text)
 
 pub later_itself : (n : Counts) → AreLater n n
-later_itself n = record { feed = omega arith; script = omega arith; disk = omega arith; writes = omega arith; out = omega arith; clock = omega arith }
+later_itself n = record { feed = omega arith; calls = omega arith; script = omega arith; disk = omega arith; writes = omega arith; out = omega arith; clock = omega arith }
+
+pub feed_later : (n0 : Counts) (k j : FeedCounts) → FeedLater k j → AreLater (with_feed n0 k) (with_feed n0 j)
+feed_later n0 k j h = record { feed = h.0; calls = h.1; script = omega arith; disk = omega arith; writes = omega arith; out = omega arith; clock = omega arith }
 
 -- nothing breaks where no write failed
 pub breaks_nothing : (n m : Counts) (s t : State) → m.writes ≡ n.writes → is_broken t ≡ false → Breaks n m s t
@@ -49,7 +52,7 @@ breaks_nothing n m s t same whole = record { broken = λ w. absurd (omega (arith
 -- ---- what was answered goes on by a line
 
 -- one more line, by what it leads to
-pub more_run : (f0 : Feed) (n0 : Counts) (lines : List (List ℕ)) (written : List ℕ) (f : Feed) (k : ℕ) (items : List Item) (replies line : List ℕ) (m : Moment) (g : Feed) (j : ℕ) (more : List Item)
+pub more_run : (f0 : Feed) (n0 : Counts) (lines : List (List ℕ)) (written : List ℕ) (f : Feed) (k : FeedCounts) (items : List Item) (replies line : List ℕ) (m : Moment) (g : Feed) (j : FeedCounts) (more : List Item)
     → HasRun f0 n0 lines written f k items replies → LineRuns only_rules f (with_feed n0 k) (session_after items) line m
     → m.feed ≡ g → m.counts ≡ with_feed n0 j → m.state ≡ session_after more → HasTaken g more → HasRun f0 n0 (lines ++ line ∷ []) written g j more (replies ++ m.text)
 more_run f0 n0 lines written f k items replies line m g j more h l feed_is counts_is state_is has =
@@ -67,7 +70,7 @@ more_run f0 n0 lines written f k items replies line m g j more h l feed_is count
     }
 
 -- a line that adds a text, and leaves the feed and the session
-pub quiet_line : (f0 : Feed) (n0 : Counts) (lines : List (List ℕ)) (written : List ℕ) (f : Feed) (k : ℕ) (items : List Item) (replies line text : List ℕ)
+pub quiet_line : (f0 : Feed) (n0 : Counts) (lines : List (List ℕ)) (written : List ℕ) (f : Feed) (k : FeedCounts) (items : List Item) (replies line text : List ℕ)
     → HasRun f0 n0 lines written f k items replies
     → LineRunsAs only_cause (with_feed n0 k) (session_after items) (line_read line) (record { feed = f; counts = with_feed n0 k; text = text; state = session_after items })
     → HasRun f0 n0 (lines ++ line ∷ []) written f k items (replies ++ text)
@@ -77,22 +80,22 @@ quiet_line f0 n0 lines written f k items replies line text h r =
     (record { grows = grows_itself f; later = later_itself (with_feed n0 k); runs = r; breaks = breaks_nothing (with_feed n0 k) (with_feed n0 k) (session_after items) (session_after items) refl refl })
     refl refl refl h.has
 
-pub skipped_runs : {f0 : Feed} {n0 : Counts} {lines : List (List ℕ)} {written : List ℕ} {f : Feed} {k : ℕ} {items : List Item} {replies : List ℕ} (line : List ℕ)
+pub skipped_runs : {f0 : Feed} {n0 : Counts} {lines : List (List ℕ)} {written : List ℕ} {f : Feed} {k : FeedCounts} {items : List Item} {replies : List ℕ} (line : List ℕ)
     → line_read line ≡ skipped → HasRun f0 n0 lines written f k items replies → HasRun f0 n0 (lines ++ line ∷ []) written f k items replies
 skipped_runs {f0} {n0} {lines} {written} {f} {k} {items} {replies} line e h =
     subst (λ r. HasRun f0 n0 (lines ++ line ∷ []) written f k items r) (append-nil replies)
     (quiet_line f0 n0 lines written f k items replies line [] h
     (subst (λ x. LineRunsAs only_cause (with_feed n0 k) (session_after items) x (record { feed = f; counts = with_feed n0 k; text = []; state = session_after items })) (sym e) (refl, refl, refl)))
 
-pub bad_runs : {f0 : Feed} {n0 : Counts} {lines : List (List ℕ)} {written : List ℕ} {f : Feed} {k : ℕ} {items : List Item} {replies : List ℕ} (line more : List ℕ)
+pub bad_runs : {f0 : Feed} {n0 : Counts} {lines : List (List ℕ)} {written : List ℕ} {f : Feed} {k : FeedCounts} {items : List Item} {replies : List ℕ} (line more : List ℕ)
     → line_read line ≡ bad_line → more ≡ replies ++ bad_line_text → HasRun f0 n0 lines written f k items replies → HasRun f0 n0 (lines ++ line ∷ []) written f k items more
 bad_runs {f0} {n0} {lines} {written} {f} {k} {items} {replies} line more e m h =
     subst (λ r. HasRun f0 n0 (lines ++ line ∷ []) written f k items r) (sym m)
     (quiet_line f0 n0 lines written f k items replies line bad_line_text h
     (subst (λ x. LineRunsAs only_cause (with_feed n0 k) (session_after items) x (record { feed = f; counts = with_feed n0 k; text = bad_line_text; state = session_after items })) (sym e) (refl, refl, refl)))
 
-pub command_runs : {f0 : Feed} {n0 : Counts} {lines : List (List ℕ)} {written : List ℕ} {f g : Feed} {k j : ℕ} {items more : List Item} {replies : List ℕ} (line text new : List ℕ) (c : Command)
-    → line_read line ≡ spells_command c → Grows f g → k ≤ j → HasTaken g more → Answered k j items more c g text → new ≡ replies ++ text
+pub command_runs : {f0 : Feed} {n0 : Counts} {lines : List (List ℕ)} {written : List ℕ} {f g : Feed} {k j : FeedCounts} {items more : List Item} {replies : List ℕ} (line text new : List ℕ) (c : Command)
+    → line_read line ≡ spells_command c → Grows f g → FeedLater k j → HasTaken g more → Answered k j items more c g text → new ≡ replies ++ text
     → HasRun f0 n0 lines written f k items replies → HasRun f0 n0 (lines ++ line ∷ []) written g j more new
 command_runs {f0} {n0} {lines} {written} {f} {g} {k} {j} {items} {more} {replies} line text new c e grows later has answered new_is h =
     let m : Moment = record { feed = g; counts = with_feed n0 j; text = text; state = session_after more } in
@@ -101,21 +104,21 @@ command_runs {f0} {n0} {lines} {written} {f} {g} {k} {j} {items} {more} {replies
     (more_run f0 n0 lines written f k items replies line m g j more h
     (record {
       grows = grows;
-      later = record { feed = later; script = omega arith; disk = omega arith; writes = omega arith; out = omega arith; clock = omega arith };
+      later = feed_later n0 k j later;
       runs = subst (λ x. LineRunsAs only_cause (with_feed n0 k) (session_after items) x m) (sym e) r;
       breaks = breaks_nothing (with_feed n0 k) (with_feed n0 j) (session_after items) (session_after more) refl refl;
     })
     refl refl refl has)
 
 -- an object tells one thing
-pub same_told : {f0 : Feed} {n0 : Counts} {lines : List (List ℕ)} {written : List ℕ} {f g : Feed} {k : ℕ} {items : List Item} {replies : List ℕ} (told : Option Feed)
+pub same_told : {f0 : Feed} {n0 : Counts} {lines : List (List ℕ)} {written : List ℕ} {f g : Feed} {k : FeedCounts} {items : List Item} {replies : List ℕ} (told : Option Feed)
     → told ≡ Some f → told ≡ Some g → HasRun f0 n0 lines written f k items replies → HasRun f0 n0 lines written g k items replies
 same_told {f0} {n0} {lines} {written} {f} {g} {k} {items} {replies} told h e r = let same : f ≡ g = cc in subst (λ x. HasRun f0 n0 lines written x k items replies) same r
 
 -- ---- byte by byte
 
 -- a byte that ends the line
-pub ended_stands : {f0 : Feed} {n0 : Counts} {written : List ℕ} {f g : Feed} {k j : ℕ} {items more : List Item} {replies new kept : List ℕ} (before now : List ℕ) (b : ℕ) → b ≡ 10
+pub ended_stands : {f0 : Feed} {n0 : Counts} {written : List ℕ} {f g : Feed} {k j : FeedCounts} {items more : List Item} {replies new kept : List ℕ} (before now : List ℕ) (b : ℕ) → b ≡ 10
     → ((lines : List (List ℕ)) (line : List ℕ) → kept ≡ kept_of line → HasRun f0 n0 lines written f k items replies → HasRun f0 n0 (lines ++ line ∷ []) written g j more new)
     → now ≡ [] → Stands f0 n0 before written f k items replies kept → Stands f0 n0 (before ++ b ∷ []) written g j more new now
 ended_stands {f0} {n0} {written} {f} {g} {k} {j} {items} {more} {replies} {new} before now b is answers empty s = subst (λ x. Stands f0 n0 (before ++ x ∷ []) written g j more new now) (sym is) (record {
@@ -124,7 +127,7 @@ ended_stands {f0} {n0} {written} {f} {g} {k} {j} {items} {more} {replies} {new} 
 })
 
 -- a byte that goes on with it
-pub goes_stands : {f0 : Feed} {n0 : Counts} {written : List ℕ} {f : Feed} {k : ℕ} {items : List Item} {replies kept : List ℕ} (before now : List ℕ) (b : ℕ)
+pub goes_stands : {f0 : Feed} {n0 : Counts} {written : List ℕ} {f : Feed} {k : FeedCounts} {items : List Item} {replies kept : List ℕ} (before now : List ℕ) (b : ℕ)
     → (b == 10) ≡ false → (kept ≡ kept_of (open_line before) → now ≡ kept_of (open_line before ++ b ∷ [])) → Stands f0 n0 before written f k items replies kept → Stands f0 n0 (before ++ b ∷ []) written f k items replies now
 goes_stands {f0} {n0} {written} {f} {k} {items} {replies} before now b no_end line s = record {
   run = subst (λ ls. HasRun f0 n0 ls written f k items replies) (sym (byte_ended before b no_end)) s.run;
@@ -150,20 +153,17 @@ kept_full line b kept e long =
     let enough : max_line + 1 ≤ length line = omega (arith, long, ap length e, n) in
     e ∙ sym (take-append-le (max_line + 1) line (b ∷ []) enough)
 
-pub same_stands : {f0 : Feed} {n0 : Counts} {before written : List ℕ} {f g : Feed} {k : ℕ} {items : List Item} {replies kept : List ℕ} (told : Option Feed)
+pub same_stands : {f0 : Feed} {n0 : Counts} {before written : List ℕ} {f g : Feed} {k : FeedCounts} {items : List Item} {replies kept : List ℕ} (told : Option Feed)
     → told ≡ Some f → told ≡ Some g → Stands f0 n0 before written f k items replies kept → Stands f0 n0 before written g k items replies kept
 same_stands told h e s = record { run = same_told told h e s.run; line = s.line }
 
-pub stands_at : {f0 : Feed} {n0 : Counts} {written : List ℕ} {f : Feed} {k : ℕ} {items : List Item} {replies kept : List ℕ} (before now : List ℕ)
+pub stands_at : {f0 : Feed} {n0 : Counts} {written : List ℕ} {f : Feed} {k : FeedCounts} {items : List Item} {replies kept : List ℕ} (before now : List ℕ)
     → before ≡ now → Stands f0 n0 before written f k items replies kept → Stands f0 n0 now written f k items replies kept
 stands_at {f0} {n0} {written} {f} {k} {items} {replies} {kept} before now e s = subst (λ x. Stands f0 n0 x written f k items replies kept) e s
 
-pub feed_later : (n0 : Counts) (k j : ℕ) → k ≤ j → AreLater (with_feed n0 k) (with_feed n0 j)
-feed_later n0 k j h = record { feed = h; script = omega arith; disk = omega arith; writes = omega arith; out = omega arith; clock = omega arith }
-
 -- where the run stands is where some first lines were answered
-pub has_run_some : {f0 : Feed} {n0 : Counts} {part written : List ℕ} {f : Feed} {k : ℕ} {items : List Item} {replies kept : List ℕ} (g : Feed) (j : ℕ) (bytes : List ℕ)
-    → IsFront part bytes → Grows f g → k ≤ j → Stands f0 n0 part written f k items replies kept → HasRunSome f0 n0 bytes written g j 10
+pub has_run_some : {f0 : Feed} {n0 : Counts} {part written : List ℕ} {f : Feed} {k : FeedCounts} {items : List Item} {replies kept : List ℕ} (g : Feed) (j : FeedCounts) (bytes : List ℕ)
+    → IsFront part bytes → Grows f g → FeedLater k j → Stands f0 n0 part written f k items replies kept → HasRunSome f0 n0 bytes written g j 10
 has_run_some {f0} {n0} {part} {written} {f} {k} {items} {replies} g j bytes begins grows later s = record {
   part = part;
   begins = begins;
@@ -174,6 +174,7 @@ has_run_some {f0} {n0} {part} {written} {f} {k} {items} {replies} g j bytes begi
     grows = subst (λ x. Grows x g) (sym s.run.feed) grows;
     later = subst (λ x. AreLater x (with_feed n0 j)) (sym s.run.counts) (feed_later n0 k j later);
     feed_kept = λ other. absurd (other refl);
+    not_called = λ other. absurd (other refl);
   };
 }
 
@@ -181,7 +182,7 @@ pub front_of_bytes : (before bytes : List ℕ) (i : ℕ) → IsFront (before ++ 
 front_of_bytes before bytes i = (drop i bytes, ap (λ x. before ++ x) (sym (take-append-drop i bytes)) ∙ sym (append_assoc before (take i bytes) (drop i bytes)))
 
 -- the same where a front of the replies was written besides
-pub has_run_front : {f0 : Feed} {n0 : Counts} {part written : List ℕ} {f : Feed} {k : ℕ} {items : List Item} {replies kept : List ℕ} (g : Feed) (bytes front : List ℕ)
+pub has_run_front : {f0 : Feed} {n0 : Counts} {part written : List ℕ} {f : Feed} {k : FeedCounts} {items : List Item} {replies kept : List ℕ} (g : Feed) (bytes front : List ℕ)
     → IsFront part bytes → IsFront front replies → Grows f g → Stands f0 n0 part written f k items replies kept → HasRunSome f0 n0 bytes (written ++ front) g k 4
 has_run_front {f0} {n0} {part} {written} {f} {k} {items} {replies} g bytes front begins of_replies grows s = record {
   part = part;
@@ -193,25 +194,26 @@ has_run_front {f0} {n0} {part} {written} {f} {k} {items} {replies} g bytes front
     grows = subst (λ x. Grows x g) (sym s.run.feed) grows;
     later = subst (λ x. AreLater x (with_feed n0 k)) (sym s.run.counts) (later_itself (with_feed n0 k));
     feed_kept = λ other. sym (ap (λ (n : Counts). n.feed) s.run.counts);
+    not_called = λ other. sym (ap (λ (n : Counts). n.calls) s.run.counts);
   };
 }
 
 pub front_itself : (bytes : List ℕ) → IsFront bytes bytes
 front_itself bytes = ([], sym (append-nil bytes))
 
-pub run_at : {f0 : Feed} {n0 : Counts} {lines : List (List ℕ)} {written : List ℕ} {f : Feed} {k : ℕ} {items : List Item} {replies : List ℕ} (j : ℕ)
+pub run_at : {f0 : Feed} {n0 : Counts} {lines : List (List ℕ)} {written : List ℕ} {f : Feed} {k : FeedCounts} {items : List Item} {replies : List ℕ} (j : FeedCounts)
     → k ≡ j → HasRun f0 n0 lines written f k items replies → HasRun f0 n0 lines written f j items replies
 run_at {f0} {n0} {lines} {written} {f} {k} {items} {replies} j e h = subst (λ x. HasRun f0 n0 lines written f x items replies) e h
 
-pub stands_with : {f0 : Feed} {n0 : Counts} {bytes written : List ℕ} {f : Feed} {k : ℕ} {items : List Item} {replies kept : List ℕ} (j : ℕ)
+pub stands_with : {f0 : Feed} {n0 : Counts} {bytes written : List ℕ} {f : Feed} {k : FeedCounts} {items : List Item} {replies kept : List ℕ} (j : FeedCounts)
     → k ≡ j → Stands f0 n0 bytes written f k items replies kept → Stands f0 n0 bytes written f j items replies kept
 stands_with j e s = record { run = run_at j e s.run; line = s.line }
 
-pub stands_to : {f0 : Feed} {n0 : Counts} {bytes written : List ℕ} {f : Feed} {k : ℕ} {items more : List Item} {replies kept now : List ℕ}
+pub stands_to : {f0 : Feed} {n0 : Counts} {bytes written : List ℕ} {f : Feed} {k : FeedCounts} {items more : List Item} {replies kept now : List ℕ}
     → items ≡ more → kept ≡ now → Stands f0 n0 bytes written f k items replies kept → Stands f0 n0 bytes written f k more replies now
 stands_to {f0} {n0} {bytes} {written} {f} {k} {items} {more} {replies} {kept} {now} e h s =
     subst (λ x. Stands f0 n0 bytes written f k x replies now) e (subst (λ x. Stands f0 n0 bytes written f k items replies x) h s)
 
-pub run_replies : {f0 : Feed} {n0 : Counts} {lines : List (List ℕ)} {written : List ℕ} {f : Feed} {k : ℕ} {items : List Item} {replies : List ℕ} (now : List ℕ)
+pub run_replies : {f0 : Feed} {n0 : Counts} {lines : List (List ℕ)} {written : List ℕ} {f : Feed} {k : FeedCounts} {items : List Item} {replies : List ℕ} (now : List ℕ)
     → replies ≡ now → HasRun f0 n0 lines written f k items replies → HasRun f0 n0 lines written f k items now
 run_replies {f0} {n0} {lines} {written} {f} {k} {items} {replies} now e h = subst (λ x. HasRun f0 n0 lines written f k items x) e h

@@ -11,12 +11,14 @@ use Rattle.lt_model.specs.Program.{IsCut, IsFront, Told, all_answered, ended_ear
 use Rattle.lt_model.specs.OneTable.{HasTaken, only_header, only_rules, only_session, session_after}
 use Rattle.lt_model.specs.Machine.{behind_header}
 use Rattle.lt_laws.proofs.TakenLaws.{moved_none}
+use Rattle.lightning_cli.specs.Sessions.{FeedCounts, feed_counts}
 use Rattle.lightning_cli.specs.Serving.{HasRun, HasRunSome, IsServing, SameDisk, Served, Stands, open_line, with_feed}
 use Rattle.lightning_cli.proofs.PieceLaws.{all_lines}
 
 later_then : (a b c : Counts) → AreLater a b → AreLater b c → AreLater a c
 later_then a b c h k = record {
   feed = omega (arith, h.feed, k.feed);
+  calls = omega (arith, h.calls, k.calls);
   script = omega (arith, h.script, k.script);
   disk = omega (arith, h.disk, k.disk);
   writes = omega (arith, h.writes, k.writes);
@@ -24,38 +26,52 @@ later_then a b c h k = record {
   clock = omega (arith, h.clock, k.clock);
 }
 
-over_more : (f : Feed) (n : Counts) (ms : List Moment) (status : ℕ) (g : Feed) (m l : Counts) → IsOver f n ms status g m → AreLater m l → l.feed ≡ m.feed → IsOver f n ms status g l
-over_more f n ms status g m l h k same = record { grows = h.grows; later = later_then (counts_after n ms) m l h.later k; feed_kept = λ other. same ∙ h.feed_kept other }
-
--- the counts as they stand on return
-later_counts : (n0 m : Counts) (k : ℕ) → k ≤ m.feed → n0.out ≤ m.out → n0.script ≤ m.script → SameDisk n0 m → AreLater (with_feed n0 k) m
-later_counts n0 m k feed out script same = record { feed = feed; script = script; disk = omega (arith, same.0); writes = omega (arith, same.1); out = out; clock = omega (arith, same.2) }
-
-pub run_over : {f0 : Feed} {n0 : Counts} {lines : List (List ℕ)} {written : List ℕ} {f : Feed} {k : ℕ} {items : List Item} {replies : List ℕ} (h : HasRun f0 n0 lines written f k items replies) (status : ℕ) (g : Feed) (m : Counts)
-    → Grows f g → k ≡ m.feed → n0.out ≤ m.out → n0.script ≤ m.script → SameDisk n0 m → IsOver f0 n0 h.moments status g m
-run_over {f0} {n0} {lines} {written} {f} {k} h status g m grows feed out script same = record {
-  grows = subst (λ x. Grows x g) (sym h.feed) grows;
-  later = subst (λ x. AreLater x m) (sym h.counts) (later_counts n0 m k (omega (arith, feed)) out script same);
-  feed_kept = λ other. sym feed ∙ sym (ap (λ (n : Counts). n.feed) h.counts);
+over_more : (f : Feed) (n : Counts) (ms : List Moment) (status : ℕ) (g : Feed) (m l : Counts) → IsOver f n ms status g m → AreLater m l → feed_counts l ≡ feed_counts m → IsOver f n ms status g l
+over_more f n ms status g m l h k same = record {
+  grows = h.grows;
+  later = later_then (counts_after n ms) m l h.later k;
+  feed_kept = λ other. ap (λ c. c.0) same ∙ h.feed_kept other;
+  not_called = λ other. ap (λ c. c.1) same ∙ h.not_called other;
 }
 
-pub part_short : {f0 : Feed} {n0 : Counts} {bytes written : List ℕ} {f : Feed} {k status : ℕ} (h : HasRunSome f0 n0 bytes written f k status) → length bytes ≤ max_script → length h.part ≤ max_script
+-- the counts as they stand on return
+later_counts : (n0 m : Counts) (k : FeedCounts) → k ≡ feed_counts m → n0.out ≤ m.out → n0.script ≤ m.script → SameDisk n0 m → AreLater (with_feed n0 k) m
+later_counts n0 m k feed out script same = record {
+  feed = omega (arith, ap (λ c. c.0) feed);
+  calls = omega (arith, ap (λ c. c.1) feed);
+  script = script;
+  disk = omega (arith, same.disk);
+  writes = omega (arith, same.writes);
+  out = out;
+  clock = omega (arith, same.clock);
+}
+
+pub run_over : {f0 : Feed} {n0 : Counts} {lines : List (List ℕ)} {written : List ℕ} {f : Feed} {k : FeedCounts} {items : List Item} {replies : List ℕ} (h : HasRun f0 n0 lines written f k items replies) (status : ℕ) (g : Feed) (m : Counts)
+    → Grows f g → k ≡ feed_counts m → n0.out ≤ m.out → n0.script ≤ m.script → SameDisk n0 m → IsOver f0 n0 h.moments status g m
+run_over {f0} {n0} {lines} {written} {f} {k} h status g m grows feed out script same = record {
+  grows = subst (λ x. Grows x g) (sym h.feed) grows;
+  later = subst (λ x. AreLater x m) (sym h.counts) (later_counts n0 m k feed out script same);
+  feed_kept = λ other. ap (λ c. c.0) (sym feed) ∙ sym (ap (λ (n : Counts). n.feed) h.counts);
+  not_called = λ other. ap (λ c. c.1) (sym feed) ∙ sym (ap (λ (n : Counts). n.calls) h.counts);
+}
+
+pub part_short : {f0 : Feed} {n0 : Counts} {bytes written : List ℕ} {f : Feed} {k : FeedCounts} {status : ℕ} (h : HasRunSome f0 n0 bytes written f k status) → length bytes ≤ max_script → length h.part ≤ max_script
 part_short h short = omega (arith, short, ap length h.begins.1, length-append h.part h.begins.0)
 
 -- where some first lines were answered and a front of their text was written, a failing sink or want of memory ends the run
-pub some_served : (old now : Told) (bytes written : List ℕ) (f : Feed) (k status : ℕ) (h : HasRunSome old.feed old.counts bytes written f k status) → length h.part ≤ max_script → IsCut status
-    → f ≡ now.feed → old.script ≡ bytes ++ now.script → now.written ≡ old.written ++ written → k ≡ now.counts.feed → old.counts.out ≤ now.counts.out → old.counts.script ≤ now.counts.script → SameDisk old.counts now.counts → Served old now status
+pub some_served : (old now : Told) (bytes written : List ℕ) (f : Feed) (k : FeedCounts) (status : ℕ) (h : HasRunSome old.feed old.counts bytes written f k status) → length h.part ≤ max_script → IsCut status
+    → f ≡ now.feed → old.script ≡ bytes ++ now.script → now.written ≡ old.written ++ written → k ≡ feed_counts now.counts → old.counts.out ≤ now.counts.out → old.counts.script ≤ now.counts.script → SameDisk old.counts now.counts → Served old now status
 some_served old now bytes written f k status h short cut same took wrote feed out script disk = record {
   trace = record { taken = bytes; written = written; moments = h.moments };
   took = took;
   wrote = wrote;
   ends = ended_early cut (in_replies h.part h.begins short h.runs h.front);
   over = subst (λ g. IsOver old.feed old.counts h.moments status g now.counts) same
-      (over_more old.feed old.counts h.moments status f (with_feed old.counts k) now.counts h.over (later_counts old.counts now.counts k (omega (arith, feed)) out script disk) (sym feed));
+      (over_more old.feed old.counts h.moments status f (with_feed old.counts k) now.counts h.over (later_counts old.counts now.counts k feed out script disk) (sym feed));
 }
 
 -- all lines were answered, the last one too, and all replies were written
-pub all_served : (old now : Told) (bytes written : List ℕ) {items : List Item} {replies : List ℕ} → HasRun old.feed old.counts (lines_ended bytes ++ open_line bytes ∷ []) written now.feed now.counts.feed items replies
+pub all_served : (old now : Told) (bytes written : List ℕ) {items : List Item} {replies : List ℕ} → HasRun old.feed old.counts (lines_ended bytes ++ open_line bytes ∷ []) written now.feed (feed_counts now.counts) items replies
     → old.script ≡ bytes → now.script ≡ [] → length bytes ≤ 2 ^ 32 → now.written ≡ old.written ++ (written ++ replies) → old.counts.out ≤ now.counts.out → old.counts.script ≤ now.counts.script → SameDisk old.counts now.counts → Served old now 0
 all_served old now bytes written {items} {replies} h whole at_end short wrote out script disk = record {
   trace = record { taken = bytes; written = written ++ replies; moments = h.moments };
@@ -67,7 +83,7 @@ all_served old now bytes written {items} {replies} h whole at_end short wrote ou
 }
 
 -- the same where a failing sink took a front of the last replies
-pub all_cut : (old now : Told) (bytes written front : List ℕ) {items : List Item} {replies : List ℕ} → HasRun old.feed old.counts (lines_ended bytes ++ open_line bytes ∷ []) written now.feed now.counts.feed items replies
+pub all_cut : (old now : Told) (bytes written front : List ℕ) {items : List Item} {replies : List ℕ} → HasRun old.feed old.counts (lines_ended bytes ++ open_line bytes ∷ []) written now.feed (feed_counts now.counts) items replies
     → IsFront front replies → old.script ≡ bytes → now.script ≡ [] → length bytes ≤ 2 ^ 32 → now.written ≡ old.written ++ (written ++ front) → old.counts.out ≤ now.counts.out → old.counts.script ≤ now.counts.script → SameDisk old.counts now.counts → Served old now 4
 all_cut old now bytes written front {items} {replies} h begins whole at_end short wrote out script disk = record {
   trace = record { taken = bytes; written = written ++ front; moments = h.moments };
@@ -80,7 +96,7 @@ all_cut old now bytes written front {items} {replies} h begins whole at_end shor
 }
 
 -- the script failed: the lines ended in what was taken were answered
-pub fault_served : (old now : Told) (bytes written : List ℕ) {items : List Item} → HasRun old.feed old.counts (lines_ended bytes) written now.feed now.counts.feed items []
+pub fault_served : (old now : Told) (bytes written : List ℕ) {items : List Item} → HasRun old.feed old.counts (lines_ended bytes) written now.feed (feed_counts now.counts) items []
     → Rose old.counts.script now.counts.script → length bytes ≤ max_script → old.script ≡ bytes ++ now.script → now.written ≡ old.written ++ (written ++ script_fault_text) → old.counts.out ≤ now.counts.out → old.counts.script ≤ now.counts.script → SameDisk old.counts now.counts → Served old now 3
 fault_served old now bytes written h rose short took wrote out script disk = record {
   trace = record { taken = bytes; written = written ++ script_fault_text; moments = h.moments };
@@ -90,13 +106,13 @@ fault_served old now bytes written h rose short took wrote out script disk = rec
   over = run_over h 3 now.feed now.counts (grows_itself now.feed) refl out script disk;
 }
 
-pub fault_cut : (old now : Told) (bytes written front : List ℕ) {items : List Item} → HasRun old.feed old.counts (lines_ended bytes) written now.feed now.counts.feed items []
+pub fault_cut : (old now : Told) (bytes written front : List ℕ) {items : List Item} → HasRun old.feed old.counts (lines_ended bytes) written now.feed (feed_counts now.counts) items []
     → IsFront front script_fault_text → Rose old.counts.script now.counts.script → length bytes ≤ max_script → old.script ≡ bytes ++ now.script → now.written ≡ old.written ++ (written ++ front) → old.counts.out ≤ now.counts.out → old.counts.script ≤ now.counts.script → SameDisk old.counts now.counts → Served old now 4
 fault_cut old now bytes written front h begins rose short took wrote out script disk = record {
   trace = record { taken = bytes; written = written ++ front; moments = h.moments };
   took = took;
   wrote = wrote;
-  ends = ended_early (inl refl) (in_script_fault rose short h.runs (begins.0, ap (λ x. x ++ script_fault_text) (h.text ∙ append-nil written) ∙ ap (λ x. written ++ x) begins.1 ∙ sym (append_assoc written front begins.0)));
+  ends = ended_early (inl refl) (in_script_fault refl rose short h.runs (begins.0, ap (λ x. x ++ script_fault_text) (h.text ∙ append-nil written) ∙ ap (λ x. written ++ x) begins.1 ∙ sym (append_assoc written front begins.0)));
   over = run_over h 4 now.feed now.counts (grows_itself now.feed) refl out script disk;
 }
 
@@ -107,7 +123,7 @@ first_bytes : (script bytes rest : List ℕ) → length bytes ≡ max_script →
 first_bytes script bytes rest full e = ap (take max_script) e ∙ take_at bytes rest max_script full
 
 -- the script is too long: the lines ended within the longest were answered
-pub long_served : (old now : Told) (bytes more written : List ℕ) {items : List Item} → HasRun old.feed old.counts (lines_ended bytes) written now.feed now.counts.feed items []
+pub long_served : (old now : Told) (bytes more written : List ℕ) {items : List Item} → HasRun old.feed old.counts (lines_ended bytes) written now.feed (feed_counts now.counts) items []
     → length bytes ≡ max_script → 0 < length more → old.script ≡ (bytes ++ more) ++ now.script → now.written ≡ old.written ++ (written ++ too_long_text) → old.counts.out ≤ now.counts.out → old.counts.script ≤ now.counts.script → SameDisk old.counts now.counts → Served old now 9
 long_served old now bytes more written h full over took wrote out script disk =
     let e : old.script ≡ bytes ++ (more ++ now.script) = took ∙ append_assoc bytes more now.script in
@@ -120,7 +136,7 @@ long_served old now bytes more written h full over took wrote out script disk =
       over = run_over h 9 now.feed now.counts (grows_itself now.feed) refl out script disk;
     }
 
-pub long_cut : (old now : Told) (bytes more written front : List ℕ) {items : List Item} → HasRun old.feed old.counts (lines_ended bytes) written now.feed now.counts.feed items []
+pub long_cut : (old now : Told) (bytes more written front : List ℕ) {items : List Item} → HasRun old.feed old.counts (lines_ended bytes) written now.feed (feed_counts now.counts) items []
     → IsFront front too_long_text → length bytes ≡ max_script → 0 < length more → old.script ≡ (bytes ++ more) ++ now.script → now.written ≡ old.written ++ (written ++ front) → old.counts.out ≤ now.counts.out → old.counts.script ≤ now.counts.script → SameDisk old.counts now.counts → Served old now 4
 long_cut old now bytes more written front h begins full over took wrote out script disk =
     let e : old.script ≡ bytes ++ (more ++ now.script) = took ∙ append_assoc bytes more now.script in
@@ -128,14 +144,14 @@ long_cut old now bytes more written front h begins full over took wrote out scri
       trace = record { taken = bytes ++ more; written = written ++ front; moments = h.moments };
       took = took;
       wrote = wrote;
-      ends = ended_early (inl refl) (in_too_long (is_long old.script bytes more now.script full over e) (subst (λ b. Runs only_rules old.feed old.counts only_session (lines_ended b) h.moments) (sym (first_bytes old.script bytes (more ++ now.script) full e)) h.runs)
+      ends = ended_early (inl refl) (in_too_long refl (is_long old.script bytes more now.script full over e) (subst (λ b. Runs only_rules old.feed old.counts only_session (lines_ended b) h.moments) (sym (first_bytes old.script bytes (more ++ now.script) full e)) h.runs)
           (begins.0, ap (λ x. x ++ too_long_text) (h.text ∙ append-nil written) ∙ ap (λ x. written ++ x) begins.1 ∙ sym (append_assoc written front begins.0)));
       over = run_over h 4 now.feed now.counts (grows_itself now.feed) refl out script disk;
     }
 
 -- where some first lines of what was taken were answered, of which a last piece was only read
-pub some_more : (old mid now : Told) (bytes piece more written : List ℕ) {status : ℕ} (f : Feed) (k : ℕ) → HasRunSome old.feed old.counts (bytes ++ piece) written f k status → length bytes + length piece ≤ max_script → IsCut status
-    → old.script ≡ bytes ++ mid.script → mid.script ≡ (piece ++ more) ++ now.script → now.written ≡ old.written ++ written → f ≡ now.feed → k ≡ now.counts.feed → old.counts.out ≤ now.counts.out → old.counts.script ≤ now.counts.script → SameDisk old.counts now.counts
+pub some_more : (old mid now : Told) (bytes piece more written : List ℕ) {status : ℕ} (f : Feed) (k : FeedCounts) → HasRunSome old.feed old.counts (bytes ++ piece) written f k status → length bytes + length piece ≤ max_script → IsCut status
+    → old.script ≡ bytes ++ mid.script → mid.script ≡ (piece ++ more) ++ now.script → now.written ≡ old.written ++ written → f ≡ now.feed → k ≡ feed_counts now.counts → old.counts.out ≤ now.counts.out → old.counts.script ≤ now.counts.script → SameDisk old.counts now.counts
     → Served old now status
 some_more old mid now bytes piece more written {status} f k h short cut took part wrote same feed out script disk =
     some_served old now (bytes ++ (piece ++ more)) written f k status
@@ -151,7 +167,7 @@ some_more old mid now bytes piece more written {status} f k h short cut took par
     cut same (took ∙ ap (λ x. bytes ++ x) part ∙ sym (append_assoc bytes (piece ++ more) now.script)) wrote feed out script disk
 
 -- replies that were written are no longer kept
-pub flushed : {f0 : Feed} {n0 : Counts} {bytes written : List ℕ} {f : Feed} {k : ℕ} {items : List Item} {replies kept : List ℕ} (now : List ℕ) → now ≡ [] → Stands f0 n0 bytes written f k items replies kept → Stands f0 n0 bytes (written ++ replies) f k items now kept
+pub flushed : {f0 : Feed} {n0 : Counts} {bytes written : List ℕ} {f : Feed} {k : FeedCounts} {items : List Item} {replies kept : List ℕ} (now : List ℕ) → now ≡ [] → Stands f0 n0 bytes written f k items replies kept → Stands f0 n0 bytes (written ++ replies) f k items now kept
 flushed {f0} {n0} {bytes} {written} {f} {k} {items} {replies} {kept} now empty s = subst (λ r. Stands f0 n0 bytes (written ++ replies) f k items r kept) (sym empty) (record {
   run = record { moments = s.run.moments; runs = s.run.runs; feed = s.run.feed; counts = s.run.counts; state = s.run.state; has = s.run.has; text = s.run.text ∙ sym (append-nil (written ++ replies)) };
   line = s.line;
@@ -165,7 +181,7 @@ pub session_nothing : only_session ≡ session_after []
 session_nothing = λ i. record only_session { streams = sym (moved_none (behind_header only_header)) i ∷ [] }
 
 -- a run that begins
-pub begins : (old now : Told) → now.feed ≡ old.feed → now.script ≡ old.script → now.written ≡ old.written → now.counts.feed ≡ old.counts.feed → now.counts.out ≡ old.counts.out → now.counts.script ≡ old.counts.script → HasTaken old.feed []
+pub begins : (old now : Told) → now.feed ≡ old.feed → now.script ≡ old.script → now.written ≡ old.written → feed_counts now.counts ≡ feed_counts old.counts → now.counts.out ≡ old.counts.out → now.counts.script ≡ old.counts.script → HasTaken old.feed []
     → IsServing old now 0 [] [] []
 begins old now feed script written faults out script_faults has = record {
   bytes = [];
@@ -175,7 +191,7 @@ begins old now feed script written faults out script_faults has = record {
   wrote = written ∙ sym (append-nil old.written);
   out = out;
   script = script_faults;
-  stands = subst (λ f. Stands old.feed old.counts [] [] f now.counts.feed [] [] []) (sym feed) (subst (λ k. Stands old.feed old.counts [] [] old.feed k [] [] []) (sym faults) (record {
+  stands = subst (λ f. Stands old.feed old.counts [] [] f (feed_counts now.counts) [] [] []) (sym feed) (subst (λ k. Stands old.feed old.counts [] [] old.feed k [] [] []) (sym faults) (record {
     run = record { moments = []; runs = tt; feed = refl; counts = refl; state = session_nothing; has = has; text = refl };
     line = refl;
   }));

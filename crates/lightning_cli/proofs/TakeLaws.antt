@@ -1,6 +1,6 @@
 -- What was taken stays taken in a longer feed, and a whole and fair record that stands next is taken too.
 use Rattle.std.proofs.Common.{Bool, List, [], ap, append-nil, append_assoc, arith, drop, false, length, refl, subst, suc, sym, true, ℕ, ◌+◌, ◌++◌, ◌<◌, ◌∙◌, ◌∷◌, ◌≡◌, ◌≤◌}
-use Rattle.std.specs.Prelude.{Err, IfOk, IsTrue, OnErr, None, Ok, Option, Result, Some, flat_map, option_map, ◌==◌}
+use Rattle.std.specs.Prelude.{Err, IfOk, IsTrue, None, Ok, Option, Result, Some, flat_map, option_map, ◌==◌}
 use Rattle.std.specs.List.{AllByRecursion}
 use Rattle.std.specs.Option.{option_or}
 use Rattle.std.proofs.lemmas.Bool.{eqb-true, false≢true}
@@ -201,10 +201,6 @@ ahead_on g at new n left rest x h l e is = let a = ahead_skips g at n left l h.a
 
 pub whole_fits : (left : List ℕ) (x : Found) (i : Item) (n : ℕ) → IsWhole x left → x ≡ whole i n → n ≤ length left
 whole_fits left x i n w e = let h : IsFound format.One left (whole i n) = subst (λ x. IsWhole x left) e w in h.0
-
-pub on_err : {T E : Type 0} {P : Type 0} (r : Result T E) → P → OnErr r P
-on_err (Ok x) p = tt
-on_err (Err y) p = p
 
 pub takes_same : (old new : List Item) (step : Option Stop) (stop : Stop) → step ≡ Some stop → TakesOne old new step → new ≡ old
 takes_same old new step stop e h = subst (λ s. TakesOne old new s) e h

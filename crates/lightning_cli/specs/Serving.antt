@@ -8,35 +8,36 @@ use Rattle.lt_model.specs.Script.{max_line, script_lines}
 use Rattle.lt_model.specs.Run.{Counts, IsOver, Moment, counts_after, feed_after, Runs, lines_ended, run_text, state_after}
 use Rattle.lt_model.specs.Program.{IsFront, RunEnds, Told, Trace}
 use Rattle.lt_model.specs.OneTable.{HasTaken, only_rules, only_session, session_after}
+use Rattle.lightning_cli.specs.Sessions.{FeedCounts, feed_counts}
 
 -- the counts, but for the feed's
-abbrev pub with_feed : Counts → ℕ → Counts
-with_feed n k = record n { feed = k }
+abbrev pub with_feed : Counts → FeedCounts → Counts
+with_feed n k = record n { feed = k.0; calls = k.1 }
 
 -- a front of the bytes was appended
 abbrev pub AppendsFront : Option (List ℕ) → Option (List ℕ) → List ℕ → Type 0
 AppendsFront old new bytes = (front : List ℕ) × IsFront front bytes × Appends old new front
 
--- These lines were answered from a feed and counts on: the feed and its count of faults now, the items taken, what was written and the
--- replies that are not written yet.
-pub record HasRun (f0 : Feed) (n0 : Counts) (lines : List (List ℕ)) (written : List ℕ) (f : Feed) (faults : ℕ) (items : List Item) (replies : List ℕ) : Type 0 where
+-- These lines were answered from a feed and counts on: the feed and its counts now, the items taken, what was written and the replies
+-- that are not written yet.
+pub record HasRun (f0 : Feed) (n0 : Counts) (lines : List (List ℕ)) (written : List ℕ) (f : Feed) (counted : FeedCounts) (items : List Item) (replies : List ℕ) : Type 0 where
   pub moments : List Moment
   pub runs : Runs only_rules f0 n0 only_session lines moments
   pub feed : feed_after f0 moments ≡ f
-  pub counts : counts_after n0 moments ≡ with_feed n0 faults
+  pub counts : counts_after n0 moments ≡ with_feed n0 counted
   pub state : state_after only_session moments ≡ session_after items
   pub has : HasTaken f items
   pub text : run_text moments ≡ written ++ replies
 
 -- The lines that some first ones of these bytes end were answered, what was written is a front of their text, and the run is over with
 -- this status.
-pub record HasRunSome (f0 : Feed) (n0 : Counts) (bytes written : List ℕ) (f : Feed) (faults status : ℕ) : Type 0 where
+pub record HasRunSome (f0 : Feed) (n0 : Counts) (bytes written : List ℕ) (f : Feed) (counted : FeedCounts) (status : ℕ) : Type 0 where
   pub part : List ℕ
   pub begins : IsFront part bytes
   pub moments : List Moment
   pub runs : Runs only_rules f0 n0 only_session (lines_ended part) moments
   pub front : IsFront written (run_text moments)
-  pub over : IsOver f0 n0 moments status f (with_feed n0 faults)
+  pub over : IsOver f0 n0 moments status f (with_feed n0 counted)
 
 -- the first bytes of a line: as many as tell whether it is too long
 abbrev pub kept_of : List ℕ → List ℕ
@@ -52,18 +53,24 @@ abbrev pub open_line : List ℕ → List ℕ
 open_line bytes = last_of_all (script_lines bytes)
 
 -- The lines that these bytes end were answered, and the first bytes of the open one are kept.
-pub record Stands (f0 : Feed) (n0 : Counts) (bytes written : List ℕ) (f : Feed) (faults : ℕ) (items : List Item) (replies kept : List ℕ) : Type 0 where
-  pub run : HasRun f0 n0 (lines_ended bytes) written f faults items replies
+pub record Stands (f0 : Feed) (n0 : Counts) (bytes written : List ℕ) (f : Feed) (counted : FeedCounts) (items : List Item) (replies kept : List ℕ) : Type 0 where
+  pub run : HasRun f0 n0 (lines_ended bytes) written f counted items replies
   pub line : kept ≡ kept_of (open_line bytes)
 
 -- what the objects tell, and the counts of the feed, the sink and the script
-abbrev pub Sees : Option Feed → Option (List ℕ) → Option (List ℕ) → ℕ → ℕ → ℕ → Told → Type 0
-Sees feed script written feed_faults out_faults script_faults t = (feed ≡ Some t.feed) × (script ≡ Some t.script) × (written ≡ Some t.written)
-    × (feed_faults ≡ t.counts.feed) × (out_faults ≡ t.counts.out) × (script_faults ≡ t.counts.script)
+pub record Sees (streams : Option Feed) (left held : Option (List ℕ)) (of_feed : FeedCounts) (of_out of_script : ℕ) (t : Told) : Type 0 where
+  pub feed : streams ≡ Some t.feed
+  pub script : left ≡ Some t.script
+  pub written : held ≡ Some t.written
+  pub counted : of_feed ≡ feed_counts t.counts
+  pub out : of_out ≡ t.counts.out
+  pub read : of_script ≡ t.counts.script
 
 -- the disk was not used
-abbrev pub SameDisk : Counts → Counts → Type 0
-SameDisk n m = (m.disk ≡ n.disk) × (m.writes ≡ n.writes) × (m.clock ≡ n.clock)
+pub record SameDisk (n m : Counts) : Type 0 where
+  pub disk : m.disk ≡ n.disk
+  pub writes : m.writes ≡ n.writes
+  pub clock : m.clock ≡ n.clock
 
 -- A run that goes on: of the script so many bytes were taken.
 pub record IsServing (old now : Told) (count : ℕ) (items : List Item) (replies kept : List ℕ) : Type 0 where
@@ -74,7 +81,7 @@ pub record IsServing (old now : Told) (count : ℕ) (items : List Item) (replies
   pub wrote : now.written ≡ old.written ++ written
   pub out : now.counts.out ≡ old.counts.out
   pub script : now.counts.script ≡ old.counts.script
-  pub stands : Stands old.feed old.counts bytes written now.feed now.counts.feed items replies kept
+  pub stands : Stands old.feed old.counts bytes written now.feed (feed_counts now.counts) items replies kept
 
 -- A run that is over, with this status.
 pub record Served (old new : Told) (status : ℕ) : Type 0 where

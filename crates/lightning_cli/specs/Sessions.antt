@@ -13,14 +13,24 @@ use Rattle.lightning_cli.specs.declared.session.Session.{Session}
 abbrev pub taken : Session → List Item
 taken s = map view_item s.items.items
 
--- A text answers a command, whatever else was counted: the feed's count went so, and no write failed.
-abbrev pub Answered : ℕ → ℕ → List Item → List Item → Command → Feed → List ℕ → Type 0
-Answered before now old new c f text = (n m : Counts) → n.feed ≡ before → m.feed ≡ now → m.writes ≡ n.writes
+-- how often the feed failed, and how often it was called
+abbrev pub FeedCounts : Type 0
+FeedCounts = ℕ × ℕ
+
+abbrev pub feed_counts : Counts → FeedCounts
+feed_counts n = (n.feed, n.calls)
+
+abbrev pub FeedLater : FeedCounts → FeedCounts → Type 0
+FeedLater before now = (before.0 ≤ now.0) × (before.1 ≤ now.1)
+
+-- A text answers a command, whatever else was counted: the feed's counts went so, and no write failed.
+abbrev pub Answered : FeedCounts → FeedCounts → List Item → List Item → Command → Feed → List ℕ → Type 0
+Answered before now old new c f text = (n m : Counts) → feed_counts n ≡ before → feed_counts m ≡ now → m.writes ≡ n.writes
     → CommandRuns only_cause n (session_after old) c (record { feed = f; counts = m; text = text; state = session_after new })
 
 -- what some calls leave of a feed: it grew, and no count fell
-pub record FeedGoes (told told' : Option Feed) (known known' faults faults' : ℕ) : Type 0 where
+pub record FeedGoes (told told' : Option Feed) (known known' : ℕ) (counts counts' : FeedCounts) : Type 0 where
   pub grows : FeedGrows told told'
   pub stays : StaysTold told told'
   pub more : known ≤ known'
-  pub later : faults ≤ faults'
+  pub later : FeedLater counts counts'

@@ -8,6 +8,7 @@ mod scan;
 mod serve;
 mod server;
 mod session;
+mod table;
 #[cfg(test)]
 mod tests;
 

@@ -3,7 +3,7 @@
 ghost use Rattle.std.specs.Prelude.{◌≡◌, ◌≢◌, ◌≤◌, OnOk, OnErr};
 ghost use Rattle.std.specs.Io.KnownBytes.{Appends};
 ghost use Rattle.lt_model.specs.Disk.{HasCause, Rose};
-ghost use Rattle.lt_model.specs.Outside.{StaysTold};
+ghost use Rattle.lt_model.specs.Outside.{FailsAt, KeepsFirstFault, StaysTold};
 ghost use Rattle.lightning_cli.specs.Serving.{AppendsFront};
 
 use lt_io::{Sink, WriteFault};
@@ -14,6 +14,7 @@ pub fn put<K: Sink>(out: &mut K, bytes: &[u8]) -> Result<(), WriteFault>
     ensures front { OnErr result (AppendsFront (K.held out.old) (K.held out.new) bytes.now) }
     ensures stays { StaysTold (K.held out.old) (K.held out.new) }
     ensures cause { HasCause (K.faults out.old) (K.faults out.new) result }
+    ensures first_fault { KeepsFirstFault (K.held out.new) (K.failed_at out.old) (K.failed_at out.new) result }
 {
     let mut at = 0;
     while at < bytes.len() {
@@ -30,6 +31,8 @@ pub fn finish<K: Sink>(out: &mut K, line: &[u8], status: u8) -> u8
     ensures stays { StaysTold (K.held out.old) (K.held out.new) }
     ensures later { K.faults out.old ≤ K.faults out.new }
     ensures cause { result ≡ 4 → status ≢ 4 → Rose (K.faults out.old) (K.faults out.new) }
+    ensures stops { result ≡ 4 → status ≢ 4 → FailsAt (K.held out.new) (K.failed_at out.old) (K.failed_at out.new) }
+    ensures unfailed { result ≢ 4 → K.failed_at out.new ≡ K.failed_at out.old }
 {
     match put(out, line) {
         Ok(()) => status,

@@ -4,7 +4,7 @@ ghost use Rattle.std.specs.Prelude.{IfSome, ◌≡◌, ◌≢◌, ◌<◌, ◌�
 ghost use Rattle.lt_model.specs.Run.{max_script};
 ghost use Rattle.lt_model.specs.Disk.{Rose};
 ghost use Rattle.lt_model.specs.OneTable.{Did, IsOneStream, is_run, is_status};
-ghost use Rattle.lt_model.specs.Outside.{FeedGrows, StaysTold};
+ghost use Rattle.lt_model.specs.Outside.{FailsAt, FeedGrows, StaysTold};
 ghost use Rattle.lt_model.specs.Program.{Tells, Told, counts_of};
 
 use crate::output::finish;
@@ -31,8 +31,8 @@ pub fn run<D: Disk, F: Feed, S: Source, K: Sink>(
 ) -> u8
     // What was taken of the script, what was written, and what each line did: one trace, over objects that tell their content.
     ensures did { (old new : Told)
-        → Tells (F.told feed.old) (S.left script.old) (K.held out.old) (counts_of D.faults D.write_faults D.moment F.faults S.faults K.faults disk.old feed.old script.old out.old) old
-        → Tells (F.told feed.new) (S.left script.new) (K.held out.new) (counts_of D.faults D.write_faults D.moment F.faults S.faults K.faults disk.new feed.new script.new out.new) new
+        → Tells (F.told feed.old) (S.left script.old) (K.held out.old) (counts_of D.faults D.write_faults D.moment F.faults F.calls S.faults K.faults disk.old feed.old script.old out.old) old
+        → Tells (F.told feed.new) (S.left script.new) (K.held out.new) (counts_of D.faults D.write_faults D.moment F.faults F.calls S.faults K.faults disk.new feed.new script.new out.new) new
         → Did (map (λ w. string_bytes w) words.now) old new result }
 
     // Each status by its cause, whatever the objects tell.
@@ -45,6 +45,10 @@ pub fn run<D: Disk, F: Feed, S: Source, K: Sink>(
     ensures mismatch { result ≡ 8 → (F.faults feed.new ≡ F.faults feed.old) × IfSome (F.told feed.new) (λ f. IsOneStream f → ⊥) }
     ensures memory { result ≡ 10 → IfSome (F.told feed.new) IsOneStream }
     ensures too_long { result ≡ 9 → IfSome (S.left script.old) (λ s. max_script < length s) }
+
+    // Nothing is read behind the script's first fault, and nothing is written behind the output's.
+    ensures script_stops { result ≡ 3 → FailsAt (S.left script.new) (S.failed_at script.old) (S.failed_at script.new) }
+    ensures out_stops { result ≡ 4 → FailsAt (K.held out.new) (K.failed_at out.old) (K.failed_at out.new) }
 
     // What failed shows: in the status, or where the last line was cut short.
     ensures script_kept { result ≢ 3 → result ≢ 4 → S.faults script.new ≡ S.faults script.old }

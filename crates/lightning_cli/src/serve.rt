@@ -4,6 +4,7 @@
 
 ghost use Rattle.std.specs.Prelude.{IfSome, ◌≢◌, ◌≡◌, ◌+◌, ◌<◌, ◌≤◌, ◌^◌, ◌++◌, ◌⊎◌, [], ℕ, List, Some, length};
 ghost use Rattle.lt_model.specs.Disk.{Rose};
+ghost use Rattle.lt_model.specs.Outside.{FailsAt};
 ghost use Rattle.lt_model.specs.Program.{Told};
 ghost use Rattle.lt_model.specs.Run.{max_script};
 ghost use Rattle.lightning_cli.specs.Serving.{Goes, IsRunStatus, IsServing, IsTaken, SameDisk, Sees, Served};
@@ -41,14 +42,15 @@ pub enum Turn {
 fn end<F: Feed, K: Sink>(server: &mut Server, alloc: Global, feed: &mut F, out: &mut K) -> u8
     requires known { 0 < F.known feed.old }
     requires written { server.old.replies.items ≡ [] }
-    ensures served { (old mid now : Told) (count : ℕ) → Sees (F.told feed.old) (Some mid.script) (K.held out.old) (F.faults feed.old) (K.faults out.old) mid.counts.script mid
-        → Sees (F.told feed.new) (Some now.script) (K.held out.new) (F.faults feed.new) (K.faults out.new) mid.counts.script now
+    ensures served { (old mid now : Told) (count : ℕ) → Sees (F.told feed.old) (Some mid.script) (K.held out.old) (F.faults feed.old, F.calls feed.old) (K.faults out.old) mid.counts.script mid
+        → Sees (F.told feed.new) (Some now.script) (K.held out.new) (F.faults feed.new, F.calls feed.new) (K.faults out.new) mid.counts.script now
         → mid.script ≡ [] → now.script ≡ [] → SameDisk old.counts now.counts → count ≤ 2 ^ 32
         → IsServing old mid count (taken server.old.session) server.old.replies.items server.old.line.items → Served old now result }
     ensures cause { result ≡ 4 → Rose (K.faults out.old) (K.faults out.new) }
-    ensures kept { result ≢ 4 → K.faults out.new ≡ K.faults out.old }
+    ensures stops { result ≡ 4 → FailsAt (K.held out.new) (K.failed_at out.old) (K.failed_at out.new) }
+    ensures kept { result ≢ 4 → (K.faults out.new ≡ K.faults out.old) × (K.failed_at out.new ≡ K.failed_at out.old) }
     ensures statuses { (result ≡ 0) ⊎ (result ≡ 4) ⊎ (result ≡ 10) }
-    ensures feed { FeedGoes (F.told feed.old) (F.told feed.new) (F.known feed.old) (F.known feed.new) (F.faults feed.old) (F.faults feed.new) }
+    ensures feed { FeedGoes (F.told feed.old) (F.told feed.new) (F.known feed.old) (F.known feed.new) (F.faults feed.old, F.calls feed.old) (F.faults feed.new, F.calls feed.new) }
     ensures out { Goes (K.held out.old) (K.held out.new) (K.faults out.old) (K.faults out.new) }
 {
     if server.answer(alloc, feed).is_err() {
@@ -67,14 +69,15 @@ fn cut<F: Feed, K: Sink>(
 ) -> u8
     requires known { 0 < F.known feed.old }
     requires written { server.old.replies.items ≡ [] }
-    ensures served { (old mid now : Told) (count : ℕ) (more : List ℕ) → Sees (F.told feed.old) (Some mid.script) (K.held out.old) (F.faults feed.old) (K.faults out.old) mid.counts.script mid
-        → Sees (F.told feed.new) (Some now.script) (K.held out.new) (F.faults feed.new) (K.faults out.new) mid.counts.script now
+    ensures served { (old mid now : Told) (count : ℕ) (more : List ℕ) → Sees (F.told feed.old) (Some mid.script) (K.held out.old) (F.faults feed.old, F.calls feed.old) (K.faults out.old) mid.counts.script mid
+        → Sees (F.told feed.new) (Some now.script) (K.held out.new) (F.faults feed.new, F.calls feed.new) (K.faults out.new) mid.counts.script now
         → mid.script ≡ (bytes.now ++ more) ++ now.script → count + length bytes.now ≡ 2 ^ 32 → 0 < length more → SameDisk old.counts now.counts
         → IsServing old mid count (taken server.old.session) server.old.replies.items server.old.line.items → Served old now result }
     ensures cause { result ≡ 4 → Rose (K.faults out.old) (K.faults out.new) }
-    ensures kept { result ≢ 4 → K.faults out.new ≡ K.faults out.old }
+    ensures stops { result ≡ 4 → FailsAt (K.held out.new) (K.failed_at out.old) (K.failed_at out.new) }
+    ensures kept { result ≢ 4 → (K.faults out.new ≡ K.faults out.old) × (K.failed_at out.new ≡ K.failed_at out.old) }
     ensures statuses { (result ≡ 4) ⊎ (result ≡ 9) ⊎ (result ≡ 10) }
-    ensures feed { FeedGoes (F.told feed.old) (F.told feed.new) (F.known feed.old) (F.known feed.new) (F.faults feed.old) (F.faults feed.new) }
+    ensures feed { FeedGoes (F.told feed.old) (F.told feed.new) (F.known feed.old) (F.known feed.new) (F.faults feed.old, F.calls feed.old) (F.faults feed.new, F.calls feed.new) }
     ensures out { Goes (K.held out.old) (K.held out.new) (K.faults out.old) (K.faults out.new) }
 {
     if server.take(alloc, feed, bytes).is_err() {
@@ -97,18 +100,19 @@ fn digest<F: Feed, K: Sink>(
     requires known { 0 < F.known feed.old }
     requires written { server.old.replies.items ≡ [] }
     requires some { 0 < length piece.now }
-    ensures more { IfMore result (λ n. (n ≡ length piece.now) × (server.new.replies.items ≡ []) × (K.faults out.new ≡ K.faults out.old)) }
-    ensures goes_on { (old mid now : Told) (count : ℕ) → Sees (F.told feed.old) (Some mid.script) (K.held out.old) (F.faults feed.old) (K.faults out.old) mid.counts.script mid
-        → Sees (F.told feed.new) (Some now.script) (K.held out.new) (F.faults feed.new) (K.faults out.new) mid.counts.script now
+    ensures more { IfMore result (λ n. (n ≡ length piece.now) × (server.new.replies.items ≡ []) × (K.faults out.new ≡ K.faults out.old) × (K.failed_at out.new ≡ K.failed_at out.old)) }
+    ensures goes_on { (old mid now : Told) (count : ℕ) → Sees (F.told feed.old) (Some mid.script) (K.held out.old) (F.faults feed.old, F.calls feed.old) (K.faults out.old) mid.counts.script mid
+        → Sees (F.told feed.new) (Some now.script) (K.held out.new) (F.faults feed.new, F.calls feed.new) (K.faults out.new) mid.counts.script now
         → mid.script ≡ piece.now ++ now.script → IsServing old mid count (taken server.old.session) server.old.replies.items server.old.line.items
         → IfMore result (λ n. IsServing old now (count + n) (taken server.new.session) [] server.new.line.items) }
-    ensures served { (old mid now : Told) (count : ℕ) → Sees (F.told feed.old) (Some mid.script) (K.held out.old) (F.faults feed.old) (K.faults out.old) mid.counts.script mid
-        → Sees (F.told feed.new) (Some now.script) (K.held out.new) (F.faults feed.new) (K.faults out.new) mid.counts.script now
+    ensures served { (old mid now : Told) (count : ℕ) → Sees (F.told feed.old) (Some mid.script) (K.held out.old) (F.faults feed.old, F.calls feed.old) (K.faults out.old) mid.counts.script mid
+        → Sees (F.told feed.new) (Some now.script) (K.held out.new) (F.faults feed.new, F.calls feed.new) (K.faults out.new) mid.counts.script now
         → mid.script ≡ piece.now ++ now.script → count + length piece.now ≤ 2 ^ 32 → SameDisk old.counts now.counts → IsServing old mid count (taken server.old.session) server.old.replies.items server.old.line.items → IfOver result (Served old now) }
     ensures cause { IfOver result (λ status. status ≡ 4 → Rose (K.faults out.old) (K.faults out.new)) }
-    ensures kept { IfOver result (λ status. status ≢ 4 → K.faults out.new ≡ K.faults out.old) }
+    ensures stops { IfOver result (λ status. status ≡ 4 → FailsAt (K.held out.new) (K.failed_at out.old) (K.failed_at out.new)) }
+    ensures kept { IfOver result (λ status. status ≢ 4 → (K.faults out.new ≡ K.faults out.old) × (K.failed_at out.new ≡ K.failed_at out.old)) }
     ensures statuses { IfOver result (λ status. (status ≡ 4) ⊎ (status ≡ 10)) }
-    ensures feed { FeedGoes (F.told feed.old) (F.told feed.new) (F.known feed.old) (F.known feed.new) (F.faults feed.old) (F.faults feed.new) }
+    ensures feed { FeedGoes (F.told feed.old) (F.told feed.new) (F.known feed.old) (F.known feed.new) (F.faults feed.old, F.calls feed.old) (F.faults feed.new, F.calls feed.new) }
     ensures out { Goes (K.held out.old) (K.held out.new) (K.faults out.old) (K.faults out.new) }
 {
     if server.take(alloc, feed, piece).is_err() {
@@ -135,19 +139,22 @@ fn take_piece<F: Feed, S: Source, K: Sink>(
     ensures more { IfMore result (λ n. (0 < n) × (count + n ≤ 2 ^ 32) × (server.new.replies.items ≡ [])) }
     ensures left { IfMore result (IsTaken (S.left script.old) (S.left script.new)) }
     ensures unfailed { IfMore result (λ n. (K.faults out.new ≡ K.faults out.old) × (S.faults script.new ≡ S.faults script.old)) }
-    ensures goes_on { (old mid now : Told) → Sees (F.told feed.old) (S.left script.old) (K.held out.old) (F.faults feed.old) (K.faults out.old) (S.faults script.old) mid
-        → Sees (F.told feed.new) (S.left script.new) (K.held out.new) (F.faults feed.new) (K.faults out.new) (S.faults script.new) now
+    ensures unstopped { IfMore result (λ n. (K.failed_at out.new ≡ K.failed_at out.old) × (S.failed_at script.new ≡ S.failed_at script.old)) }
+    ensures goes_on { (old mid now : Told) → Sees (F.told feed.old) (S.left script.old) (K.held out.old) (F.faults feed.old, F.calls feed.old) (K.faults out.old) (S.faults script.old) mid
+        → Sees (F.told feed.new) (S.left script.new) (K.held out.new) (F.faults feed.new, F.calls feed.new) (K.faults out.new) (S.faults script.new) now
         → IsServing old mid count (taken server.old.session) server.old.replies.items server.old.line.items → IfMore result (λ n. IsServing old now (count + n) (taken server.new.session) [] server.new.line.items) }
-    ensures served { (old mid now : Told) → Sees (F.told feed.old) (S.left script.old) (K.held out.old) (F.faults feed.old) (K.faults out.old) (S.faults script.old) mid
-        → Sees (F.told feed.new) (S.left script.new) (K.held out.new) (F.faults feed.new) (K.faults out.new) (S.faults script.new) now
+    ensures served { (old mid now : Told) → Sees (F.told feed.old) (S.left script.old) (K.held out.old) (F.faults feed.old, F.calls feed.old) (K.faults out.old) (S.faults script.old) mid
+        → Sees (F.told feed.new) (S.left script.new) (K.held out.new) (F.faults feed.new, F.calls feed.new) (K.faults out.new) (S.faults script.new) now
         → SameDisk old.counts now.counts → IsServing old mid count (taken server.old.session) server.old.replies.items server.old.line.items → IfOver result (Served old now) }
     ensures script_fault { IfOver result (λ status. status ≡ 3 → Rose (S.faults script.old) (S.faults script.new)) }
     ensures out_fault { IfOver result (λ status. status ≡ 4 → Rose (K.faults out.old) (K.faults out.new)) }
+    ensures script_stops { IfOver result (λ status. status ≡ 3 → FailsAt (S.left script.new) (S.failed_at script.old) (S.failed_at script.new)) }
+    ensures out_stops { IfOver result (λ status. status ≡ 4 → FailsAt (K.held out.new) (K.failed_at out.old) (K.failed_at out.new)) }
     ensures too_long { IfOver result (λ status. status ≡ 9 → IfSome (S.left script.old) (λ s. 2 ^ 32 < count + length s)) }
     ensures script_kept { IfOver result (λ status. status ≢ 3 → status ≢ 4 → S.faults script.new ≡ S.faults script.old) }
     ensures out_kept { IfOver result (λ status. status ≢ 4 → K.faults out.new ≡ K.faults out.old) }
     ensures statuses { IfOver result IsRunStatus }
-    ensures feed { FeedGoes (F.told feed.old) (F.told feed.new) (F.known feed.old) (F.known feed.new) (F.faults feed.old) (F.faults feed.new) }
+    ensures feed { FeedGoes (F.told feed.old) (F.told feed.new) (F.known feed.old) (F.known feed.new) (F.faults feed.old, F.calls feed.old) (F.faults feed.new, F.calls feed.new) }
     ensures script { Goes (S.left script.old) (S.left script.new) (S.faults script.old) (S.faults script.new) }
     ensures out { Goes (K.held out.old) (K.held out.new) (K.faults out.old) (K.faults out.new) }
 {
@@ -176,16 +183,18 @@ pub fn serve<F: Feed, S: Source, K: Sink>(
 ) -> u8
     requires known { 0 < F.known feed.old }
     requires fresh { taken session ≡ [] }
-    ensures served { (old now : Told) → Sees (F.told feed.old) (S.left script.old) (K.held out.old) (F.faults feed.old) (K.faults out.old) (S.faults script.old) old
-        → Sees (F.told feed.new) (S.left script.new) (K.held out.new) (F.faults feed.new) (K.faults out.new) (S.faults script.new) now
+    ensures served { (old now : Told) → Sees (F.told feed.old) (S.left script.old) (K.held out.old) (F.faults feed.old, F.calls feed.old) (K.faults out.old) (S.faults script.old) old
+        → Sees (F.told feed.new) (S.left script.new) (K.held out.new) (F.faults feed.new, F.calls feed.new) (K.faults out.new) (S.faults script.new) now
         → SameDisk old.counts now.counts → HasTaken old.feed [] → Served old now result }
     ensures script_fault { result ≡ 3 → Rose (S.faults script.old) (S.faults script.new) }
     ensures out_fault { result ≡ 4 → Rose (K.faults out.old) (K.faults out.new) }
+    ensures script_stops { result ≡ 3 → FailsAt (S.left script.new) (S.failed_at script.old) (S.failed_at script.new) }
+    ensures out_stops { result ≡ 4 → FailsAt (K.held out.new) (K.failed_at out.old) (K.failed_at out.new) }
     ensures too_long { result ≡ 9 → IfSome (S.left script.old) (λ s. max_script < length s) }
     ensures script_kept { result ≢ 3 → result ≢ 4 → S.faults script.new ≡ S.faults script.old }
     ensures out_kept { result ≢ 4 → K.faults out.new ≡ K.faults out.old }
     ensures statuses { IsRunStatus result }
-    ensures feed { FeedGoes (F.told feed.old) (F.told feed.new) (F.known feed.old) (F.known feed.new) (F.faults feed.old) (F.faults feed.new) }
+    ensures feed { FeedGoes (F.told feed.old) (F.told feed.new) (F.known feed.old) (F.known feed.new) (F.faults feed.old, F.calls feed.old) (F.faults feed.new, F.calls feed.new) }
     ensures script { Goes (S.left script.old) (S.left script.new) (S.faults script.old) (S.faults script.new) }
     ensures out { Goes (K.held out.old) (K.held out.new) (K.faults out.old) (K.faults out.new) }
 {

@@ -1,11 +1,12 @@
 //! A run of a script: takes its bytes as they come, and collects the replies to the lines that they end.
 //!
-//! Each byte is looked at once. Of a line no more is kept than tells whether it is too long.
+//! Each byte is looked at once. Of a line no more is kept than tells whether it is too long. The replies to the lines that one piece of the
+//! script ends are kept until the piece is taken, so memory grows with what they answer.
 
 ghost use Rattle.std.specs.Prelude.{◌≡◌, ◌<◌, ◌≤◌, ◌++◌, ◌∷◌, [], ℕ, List, Some, OnOk, OnErr};
 ghost use Rattle.std.specs.Io.KnownBytes.{Appends};
 ghost use Rattle.lt_model.specs.Disk.{HasCause};
-ghost use Rattle.lt_model.specs.Outside.{StaysTold};
+ghost use Rattle.lt_model.specs.Outside.{KeepsFirstFault, StaysTold};
 ghost use Rattle.lt_model.specs.Fair.{Feed as Streams};
 ghost use Rattle.lt_model.specs.Run.{Counts};
 ghost use Rattle.lightning_cli.specs.Serving.{AppendsFront, HasRun, HasRunSome, Stands, kept_of};
@@ -59,6 +60,7 @@ impl Server {
         ensures rest { (self.new.session ≡ self.old.session) × (self.new.line.items ≡ self.old.line.items) }
         ensures stays { StaysTold (K.held out.old) (K.held out.new) }
         ensures cause { HasCause (K.faults out.old) (K.faults out.new) result }
+        ensures first_fault { KeepsFirstFault (K.held out.new) (K.failed_at out.old) (K.failed_at out.new) result }
     {
         put(out, self.replies.as_slice())?;
         self.replies.clear();
@@ -69,12 +71,12 @@ impl Server {
     pub fn take<F: Feed>(&mut self, alloc: Global, feed: &mut F, bytes: &[u8]) -> Result<(), Memory>
         requires { 0 < F.known feed.old }
         ensures ok { (f g f0 : Streams) (n0 : Counts) (before written : List ℕ) → F.told feed.old ≡ Some f → F.told feed.new ≡ Some g
-            → Stands f0 n0 before written f (F.faults feed.old) (taken self.old.session) self.old.replies.items self.old.line.items
-            → OnOk result (Stands f0 n0 (before ++ bytes.now) written g (F.faults feed.new) (taken self.new.session) self.new.replies.items self.new.line.items) }
+            → Stands f0 n0 before written f (F.faults feed.old, F.calls feed.old) (taken self.old.session) self.old.replies.items self.old.line.items
+            → OnOk result (Stands f0 n0 (before ++ bytes.now) written g (F.faults feed.new, F.calls feed.new) (taken self.new.session) self.new.replies.items self.new.line.items) }
         ensures err { (f g f0 : Streams) (n0 : Counts) (before written : List ℕ) → F.told feed.old ≡ Some f → F.told feed.new ≡ Some g
-            → Stands f0 n0 before written f (F.faults feed.old) (taken self.old.session) self.old.replies.items self.old.line.items
-            → OnErr result (HasRunSome f0 n0 (before ++ bytes.now) written g (F.faults feed.new) 10) }
-        ensures feed { FeedGoes (F.told feed.old) (F.told feed.new) (F.known feed.old) (F.known feed.new) (F.faults feed.old) (F.faults feed.new) }
+            → Stands f0 n0 before written f (F.faults feed.old, F.calls feed.old) (taken self.old.session) self.old.replies.items self.old.line.items
+            → OnErr result (HasRunSome f0 n0 (before ++ bytes.now) written g (F.faults feed.new, F.calls feed.new) 10) }
+        ensures feed { FeedGoes (F.told feed.old) (F.told feed.new) (F.known feed.old) (F.known feed.new) (F.faults feed.old, F.calls feed.old) (F.faults feed.new, F.calls feed.new) }
     {
         for byte in bytes {
             self.take_byte(alloc, feed, *byte)?;
@@ -86,9 +88,9 @@ impl Server {
     fn take_byte<F: Feed>(&mut self, alloc: Global, feed: &mut F, byte: u8) -> Result<(), Memory>
         requires { 0 < F.known feed.old }
         ensures ok { (f g f0 : Streams) (n0 : Counts) (before written : List ℕ) → F.told feed.old ≡ Some f → F.told feed.new ≡ Some g
-            → Stands f0 n0 before written f (F.faults feed.old) (taken self.old.session) self.old.replies.items self.old.line.items
-            → OnOk result (Stands f0 n0 (before ++ byte ∷ []) written g (F.faults feed.new) (taken self.new.session) self.new.replies.items self.new.line.items) }
-        ensures feed { FeedGoes (F.told feed.old) (F.told feed.new) (F.known feed.old) (F.known feed.new) (F.faults feed.old) (F.faults feed.new) }
+            → Stands f0 n0 before written f (F.faults feed.old, F.calls feed.old) (taken self.old.session) self.old.replies.items self.old.line.items
+            → OnOk result (Stands f0 n0 (before ++ byte ∷ []) written g (F.faults feed.new, F.calls feed.new) (taken self.new.session) self.new.replies.items self.new.line.items) }
+        ensures feed { FeedGoes (F.told feed.old) (F.told feed.new) (F.known feed.old) (F.known feed.new) (F.faults feed.old, F.calls feed.old) (F.faults feed.new, F.calls feed.new) }
     {
         if byte == LINE_FEED {
             self.answer(alloc, feed)?;
@@ -105,10 +107,10 @@ impl Server {
     pub fn answer<F: Feed>(&mut self, alloc: Global, feed: &mut F) -> Result<(), Memory>
         requires { 0 < F.known feed.old }
         ensures ok { (f g f0 : Streams) (n0 : Counts) (lines : List (List ℕ)) (written line : List ℕ) → F.told feed.old ≡ Some f → F.told feed.new ≡ Some g → self.old.line.items ≡ kept_of line
-            → HasRun f0 n0 lines written f (F.faults feed.old) (taken self.old.session) self.old.replies.items
-            → OnOk result (HasRun f0 n0 (lines ++ line ∷ []) written g (F.faults feed.new) (taken self.new.session) self.new.replies.items) }
+            → HasRun f0 n0 lines written f (F.faults feed.old, F.calls feed.old) (taken self.old.session) self.old.replies.items
+            → OnOk result (HasRun f0 n0 (lines ++ line ∷ []) written g (F.faults feed.new, F.calls feed.new) (taken self.new.session) self.new.replies.items) }
         ensures line { self.new.line.items ≡ self.old.line.items }
-        ensures feed { FeedGoes (F.told feed.old) (F.told feed.new) (F.known feed.old) (F.known feed.new) (F.faults feed.old) (F.faults feed.new) }
+        ensures feed { FeedGoes (F.told feed.old) (F.told feed.new) (F.known feed.old) (F.known feed.new) (F.faults feed.old, F.calls feed.old) (F.faults feed.new, F.calls feed.new) }
     {
         match line::read_line(alloc, self.line.as_slice())? {
             Line::Skipped => Ok(()),

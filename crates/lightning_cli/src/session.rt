@@ -1,7 +1,7 @@
 //! A run's session: the items that were taken of the stream, and what a command does to it.
 //!
-//! The session keeps the plain list of items, and a scan folds it: this program is the definitions' companion. A command takes time
-//! that grows with the items taken so far.
+//! The session keeps the plain list of items, and a scan folds it: this program is the definitions' companion. A pump takes time by what
+//! it takes, and a scan by all items taken so far.
 
 ghost use Rattle.std.specs.Prelude.{◌≡◌, ◌<◌, ◌^◌, ◌∷◌, ℤ, [], IsTrue, map};
 ghost use Rattle.lt_model.specs.Key.{int_part, key_bytes};
@@ -103,7 +103,7 @@ impl Session {
         ensures fault { IsErrOf result AttachRefusal.Feed → Rose (F.faults feed.old) (F.faults feed.new) }
         ensures no_memory { IsErrOf result AttachRefusal.Memory → ⊥ }
         ensures kept { OnOk result (F.faults feed.new ≡ F.faults feed.old) }
-        ensures feed { FeedGoes (F.told feed.old) (F.told feed.new) (F.known feed.old) (F.known feed.new) (F.faults feed.old) (F.faults feed.new) }
+        ensures feed { FeedGoes (F.told feed.old) (F.told feed.new) (F.known feed.old) (F.known feed.new) (F.faults feed.old, F.calls feed.old) (F.faults feed.new, F.calls feed.new) }
     {
         look(feed)?;
         Ok(Session::begin(alloc))
@@ -118,8 +118,8 @@ impl Session {
     ) -> Result<Blob, Memory>
         requires { 0 < F.known feed.old }
         ensures answered { (f g : Streams) → F.told feed.old ≡ Some f → F.told feed.new ≡ Some g → HasTaken f (taken self.old)
-            → HasTaken g (taken self.new) × IfOk result (Answered (F.faults feed.old) (F.faults feed.new) (taken self.old) (taken self.new) (view_command command) g) }
-        ensures feed { FeedGoes (F.told feed.old) (F.told feed.new) (F.known feed.old) (F.known feed.new) (F.faults feed.old) (F.faults feed.new) }
+            → HasTaken g (taken self.new) × IfOk result (Answered (F.faults feed.old, F.calls feed.old) (F.faults feed.new, F.calls feed.new) (taken self.old) (taken self.new) (view_command command) g) }
+        ensures feed { FeedGoes (F.told feed.old) (F.told feed.new) (F.known feed.old) (F.known feed.new) (F.faults feed.old, F.calls feed.old) (F.faults feed.new, F.calls feed.new) }
     {
         match command {
             Command::Pump { count } => self.answer_pump(alloc, count, feed),

@@ -1,7 +1,7 @@
 //! Whole runs over objects in memory: worked replies, and each call of an object failing in turn.
 
 use crate::program::run;
-use lt_core::List;
+use lt_core::{Blob, List};
 use lt_disk::MemDisk;
 use lt_io::{MemFeed, MemSink, MemSource};
 use std::test::Fail;
@@ -9,13 +9,58 @@ use std::test::Fail;
 /// The header of stream 0.
 const HEADER: &[u8] = b"\x01\x00\x00\x00\x0dLTLOG1\x00\x00\x00\x00\x00\x00\x00";
 
-/// The header, an insert at 5, and a checkpoint at 7.
-const LOG: &[u8] =
-    b"\x01\x00\x00\x00\x0dLTLOG1\x00\x00\x00\x00\x00\x00\x00\x02\x00\x00\x000\x00\x00\x00\x00\x00\x00\x00\x05\x00\x00\x00\x01\x00\x00\x00\x01\x01\x01\x01\x00\x00\x00\x00\x00\x00\x00\x01\x00\x02\x00\x01\x02\x00\x00\x00\x00\x00\x00\x00\n\x00\x02\x03\x00\x00\x00\x01x\x03\x00\x00\x00\x08\x00\x00\x00\x00\x00\x00\x00\x07";
+/// `insert 5 1 10 "x"`: a change at 5 of key 1.
+const INSERT: &[u8] =
+    b"\x02\x00\x00\x000\x00\x00\x00\x00\x00\x00\x00\x05\x00\x00\x00\x01\x00\x00\x00\x01\x01\x01\x01\x00\x00\x00\x00\x00\x00\x00\x01\x00\x02\x00\x01\x02\x00\x00\x00\x00\x00\x00\x00\n\x00\x02\x03\x00\x00\x00\x01x";
+
+const CHECKPOINT_5: &[u8] = b"\x03\x00\x00\x00\x08\x00\x00\x00\x00\x00\x00\x00\x05";
+
+const CHECKPOINT_7: &[u8] = b"\x03\x00\x00\x00\x08\x00\x00\x00\x00\x00\x00\x00\x07";
+
+const CHECKPOINT_11: &[u8] = b"\x03\x00\x00\x00\x08\x00\x00\x00\x00\x00\x00\x00\x0b";
+
+/// `update 6 1 a=-11`
+const UPDATE: &[u8] =
+    b"\x02\x00\x00\x00(\x00\x00\x00\x00\x00\x00\x00\x06\x00\x00\x00\x01\x00\x00\x00\x01\x02\x01\x01\x00\x00\x00\x00\x00\x00\x00\x01\x00\x01\x00\x01\x02\xff\xff\xff\xff\xff\xff\xff\xf5";
+
+/// `delete 7 1`
+const DELETE: &[u8] =
+    b"\x02\x00\x00\x00\x1d\x00\x00\x00\x00\x00\x00\x00\x07\x00\x00\x00\x01\x00\x00\x00\x01\x03\x01\x01\x00\x00\x00\x00\x00\x00\x00\x01\x00\x00";
+
+/// `update 8 1 a=12`
+const UPDATE_ON_NOTHING: &[u8] =
+    b"\x02\x00\x00\x00(\x00\x00\x00\x00\x00\x00\x00\x08\x00\x00\x00\x01\x00\x00\x00\x01\x02\x01\x01\x00\x00\x00\x00\x00\x00\x00\x01\x00\x01\x00\x01\x02\x00\x00\x00\x00\x00\x00\x00\x0c";
+
+/// `insert 9 5 null "a\"b\n"`
+const INSERT_TEXT: &[u8] =
+    b"\x02\x00\x00\x00+\x00\x00\x00\x00\x00\x00\x00\x09\x00\x00\x00\x01\x00\x00\x00\x01\x01\x01\x01\x00\x00\x00\x00\x00\x00\x00\x05\x00\x02\x00\x01\x00\x00\x02\x03\x00\x00\x00\x04a\"b\n";
+
+/// `insert 10 0 1 null`
+const INSERT_NULL: &[u8] =
+    b"\x02\x00\x00\x00+\x00\x00\x00\x00\x00\x00\x00\n\x00\x00\x00\x01\x00\x00\x00\x01\x01\x01\x01\x00\x00\x00\x00\x00\x00\x00\x00\x00\x02\x00\x01\x02\x00\x00\x00\x00\x00\x00\x00\x01\x00\x02\x00";
+
+/// `insert 11 -1 2 ""`
+const INSERT_BELOW: &[u8] =
+    b"\x02\x00\x00\x00/\x00\x00\x00\x00\x00\x00\x00\x0b\x00\x00\x00\x01\x00\x00\x00\x01\x01\x01\x01\xff\xff\xff\xff\xff\xff\xff\xff\x00\x02\x00\x01\x02\x00\x00\x00\x00\x00\x00\x00\x02\x00\x02\x03\x00\x00\x00\x00";
+
+/// What a stream is made of.
+type Frames<'a> = &'a [&'a [u8]];
+
+const LOG: Frames<'static> = &[HEADER, INSERT, CHECKPOINT_7];
 
 /// A row that is inserted, changed, deleted and updated while absent, beside rows with lower and higher keys, up to 11.
-const WORK: &[u8] =
-    b"\x01\x00\x00\x00\x0dLTLOG1\x00\x00\x00\x00\x00\x00\x00\x02\x00\x00\x000\x00\x00\x00\x00\x00\x00\x00\x05\x00\x00\x00\x01\x00\x00\x00\x01\x01\x01\x01\x00\x00\x00\x00\x00\x00\x00\x01\x00\x02\x00\x01\x02\x00\x00\x00\x00\x00\x00\x00\n\x00\x02\x03\x00\x00\x00\x01x\x03\x00\x00\x00\x08\x00\x00\x00\x00\x00\x00\x00\x05\x02\x00\x00\x00(\x00\x00\x00\x00\x00\x00\x00\x06\x00\x00\x00\x01\x00\x00\x00\x01\x02\x01\x01\x00\x00\x00\x00\x00\x00\x00\x01\x00\x01\x00\x01\x02\xff\xff\xff\xff\xff\xff\xff\xf5\x02\x00\x00\x00\x1d\x00\x00\x00\x00\x00\x00\x00\x07\x00\x00\x00\x01\x00\x00\x00\x01\x03\x01\x01\x00\x00\x00\x00\x00\x00\x00\x01\x00\x00\x02\x00\x00\x00(\x00\x00\x00\x00\x00\x00\x00\x08\x00\x00\x00\x01\x00\x00\x00\x01\x02\x01\x01\x00\x00\x00\x00\x00\x00\x00\x01\x00\x01\x00\x01\x02\x00\x00\x00\x00\x00\x00\x00\x0c\x02\x00\x00\x00+\x00\x00\x00\x00\x00\x00\x00\x09\x00\x00\x00\x01\x00\x00\x00\x01\x01\x01\x01\x00\x00\x00\x00\x00\x00\x00\x05\x00\x02\x00\x01\x00\x00\x02\x03\x00\x00\x00\x04a\"b\n\x02\x00\x00\x00+\x00\x00\x00\x00\x00\x00\x00\n\x00\x00\x00\x01\x00\x00\x00\x01\x01\x01\x01\x00\x00\x00\x00\x00\x00\x00\x00\x00\x02\x00\x01\x02\x00\x00\x00\x00\x00\x00\x00\x01\x00\x02\x00\x02\x00\x00\x00/\x00\x00\x00\x00\x00\x00\x00\x0b\x00\x00\x00\x01\x00\x00\x00\x01\x01\x01\x01\xff\xff\xff\xff\xff\xff\xff\xff\x00\x02\x00\x01\x02\x00\x00\x00\x00\x00\x00\x00\x02\x00\x02\x03\x00\x00\x00\x00\x03\x00\x00\x00\x08\x00\x00\x00\x00\x00\x00\x00\x0b";
+const WORK: Frames<'static> = &[
+    HEADER,
+    INSERT,
+    CHECKPOINT_5,
+    UPDATE,
+    DELETE,
+    UPDATE_ON_NOTHING,
+    INSERT_TEXT,
+    INSERT_NULL,
+    INSERT_BELOW,
+    CHECKPOINT_11,
+];
 
 const SCRIPT: &[u8] = b"pump 0 10\nscan t 1 4\nscan t 1 7\nscan t 1 8\n";
 
@@ -28,26 +73,36 @@ const CUT: &[u8] =
 
 const USAGE: &[u8] = b"usage: lightning init LIMIT | run | gen N\n";
 
+const MISMATCH: &[u8] = b"stopped 8 FeedMismatch 0\n";
+
+/// A run's words, streams and script.
+#[derive(Clone, Copy)]
+struct Given<'a> {
+    words: &'a [&'a str],
+    streams: &'a [Frames<'a>],
+    script: &'a [u8],
+}
+
 /// Whether a run ends with this status and writes this text, where these calls of the feed, of the script and of the sink fail.
 fn ends_so(
     rt: HostRuntime,
-    word: &str,
-    stream: &[u8],
-    script: &[u8],
-    feed_fails: &[u64],
-    script_fails: &[u64],
-    out_fails: &[u64],
+    given: &Given,
+    [feed_fails, script_fails, out_fails]: [&[u64]; 3],
     status: u8,
     text: &[u8],
 ) -> Result<bool, Fail> {
     let alloc = rt.alloc();
     let mut words = Vec::new(alloc);
-    words.push(String::from_str(alloc, word)?)?;
+    for word in given.words {
+        words.push(String::from_str(alloc, word)?)?;
+    }
     let mut disk = MemDisk::new(alloc);
     let mut feed = MemFeed::new(alloc);
-    feed.add_stream(List::from_slice(alloc, stream)?)?;
+    for frames in given.streams {
+        feed.add_stream(stream(rt, frames)?)?;
+    }
     feed.fail(feed_fails)?;
-    let mut source = MemSource::new(List::from_slice(alloc, script)?);
+    let mut source = MemSource::new(List::from_slice(alloc, given.script)?);
     source.fail(script_fails)?;
     let mut out = MemSink::new(alloc);
     out.fail(out_fails)?;
@@ -62,39 +117,64 @@ fn ends_so(
     Ok(ended == status && out.bytes() == text)
 }
 
+fn stream(rt: HostRuntime, frames: &[&[u8]]) -> Result<Blob, Fail> {
+    let mut bytes = Vec::new(rt.alloc());
+    for frame in frames {
+        bytes.extend_from_slice(frame)?;
+    }
+    Ok(List::from_slice(rt.alloc(), bytes.as_slice())?)
+}
+
 #[test]
 fn worked_runs(rt: HostRuntime) -> Result<(), Fail> {
-    let runs: [(&str, &[u8], &[u8], u8, &[u8]); 8] = [
-        ("run", LOG, SCRIPT, 0, REPLIES),
+    let run: &[&str] = &["run"];
+    let runs: [(&[&str], &[Frames], &[u8], u8, &[u8]); 10] = [
+        // empty_feed
         (
-            "run",
-            HEADER,
-            b"pump 0 5\nscan t 1 0\n",
+            run,
+            &[&[HEADER]],
+            b"scan t 1 0\npump 0 10\nscan t 1 1\n",
             0,
-            b"ok pump 0 records 0 offset 18 checkpoint 0 stop End\nok scan 0\n",
+            b"ok scan 0\nok pump 0 records 0 offset 18 checkpoint 0 stop End\nrefused E13 NotSafe 0 0\n",
         ),
+        // first_insert
         (
-            "run",
-            LOG,
+            run,
+            &[LOG],
+            b"pump 0 10\nscan t 1 4\nscan t 1 5\nscan t 1 7\nscan t 1 8\n",
+            0,
+            b"ok pump 0 records 2 offset 84 checkpoint 7 stop End\nok scan 0\nrow [1,10,\"x\"]\nok scan 1\nrow [1,10,\"x\"]\nok scan 1\nrefused E13 NotSafe 0 7\n",
+        ),
+        // statuses
+        (&["run", "now"], &[LOG], SCRIPT, 2, USAGE),
+        (&[], &[LOG], SCRIPT, 2, USAGE),
+        (&["gen"], &[LOG], SCRIPT, 2, USAGE),
+        (run, &[], SCRIPT, 8, MISMATCH),
+        (run, &[LOG, LOG], SCRIPT, 8, MISMATCH),
+        (run, &[&[b"LTLOG1"]], SCRIPT, 8, MISMATCH),
+        (
+            run,
+            &[LOG],
             b"\n# a comment\npump 1 1\nscan t 1 07\npump 0 1",
             0,
             b"refused E1 BadLine\nrefused E1 BadLine\nok pump 0 records 1 offset 71 checkpoint 0 stop Count\n",
         ),
         (
-            "run",
-            WORK,
+            run,
+            &[WORK],
             b"pump 0 99\nscan t 1 5\nscan t 1 6\nscan t 1 8\nscan t 1 11\n",
             0,
             b"ok pump 0 records 9 offset 369 checkpoint 11 stop End\nrow [1,10,\"x\"]\nok scan 1\nrow [1,-11,\"x\"]\nok scan 1\nok scan 0\nrow [-1,2,\"\"]\nrow [0,1,null]\nrow [5,null,\"a\\\"b\\n\"]\nok scan 3\n",
         ),
-        ("run", b"", SCRIPT, 8, b"stopped 8 FeedMismatch 0\n"),
-        ("run", b"LTLOG1", SCRIPT, 8, b"stopped 8 FeedMismatch 0\n"),
-        ("gen", LOG, SCRIPT, 2, USAGE),
-        ("", LOG, SCRIPT, 2, USAGE),
     ];
-    for (row, (word, stream, script, status, text)) in runs.into_iter().enumerate() {
+    for (row, (words, streams, script, status, text)) in runs.into_iter().enumerate() {
+        let given = Given {
+            words,
+            streams,
+            script,
+        };
         assert!(rt;
-            ends_so(rt, word, stream, script, &[], &[], &[], status, text)?,
+            ends_so(rt, &given, [&[], &[], &[]], status, text)?,
             "row {row}"
         );
     }
@@ -134,11 +214,13 @@ fn each_call_fails_in_turn(rt: HostRuntime) -> Result<(), Fail> {
         ("run", SCRIPT, [&[1], &[], &[1]], 4, b""),
         ("gen", SCRIPT, [&[], &[], &[1]], 4, b""),
     ];
-    for (row, (word, script, [feed, source, out], status, text)) in rows.into_iter().enumerate() {
-        assert!(rt;
-            ends_so(rt, word, LOG, script, feed, source, out, status, text)?,
-            "row {row}"
-        );
+    for (row, (word, script, fails, status, text)) in rows.into_iter().enumerate() {
+        let given = Given {
+            words: &[word],
+            streams: &[LOG],
+            script,
+        };
+        assert!(rt; ends_so(rt, &given, fails, status, text)?, "row {row}");
     }
     Ok(())
 }
@@ -155,6 +237,11 @@ fn long_lines_and_bytes_that_are_no_text(rt: HostRuntime) -> Result<(), Fail> {
     }
     script.extend_from_slice(b"#\xff\nscan t 1 1")?;
     let text = b"refused E1 BadLine\nrefused E1 BadLine\nrefused E13 NotSafe 0 0\n";
-    assert!(rt; ends_so(rt, "run", LOG, script.as_slice(), &[], &[], &[], 0, text)?);
+    let given = Given {
+        words: &["run"],
+        streams: &[LOG],
+        script: script.as_slice(),
+    };
+    assert!(rt; ends_so(rt, &given, [&[], &[], &[]], 0, text)?);
     Ok(())
 }

@@ -14,14 +14,15 @@ grows_itself [] = tt
 grows_itself (b ∷ bs) = (([], sym (append-nil b)), grows_itself bs)
 
 -- a call that changes no stream
-pub called_by_plan : {T E : Type 0} (f g : Feed) (p q : Plan) (r : Result T E) → g ≡ f → GoesByPlan p q (is_err r) → p.faults ≤ q.faults
+pub called_by_plan : {T E : Type 0} (f g : Feed) (p q : Plan) (r : Result T E) → g ≡ f → GoesByPlan p q (is_err r) → p.faults ≤ q.faults → p.made ≤ q.made
     → FeedCalled (Some f) (Some g) (length f) (length g) p.faults q.faults p.made q.made r
-called_by_plan f g p q r same goes later = record {
+called_by_plan f g p q r same goes later made = record {
   stays = (λ _. refl, λ _. refl);
   grows = subst (Grows f) (sym same) (grows_itself f);
   more = omega (arith, ap length same);
   cause = cause_by_plan p q r goes later;
   counted = omega (arith, ap (λ p. p.made) goes.1);
+  no_fewer = made;
 }
 
 -- ---- reads

@@ -1,5 +1,5 @@
 -- What the objects in memory hold.
-use Rattle.std.specs.Prelude.{List, Vec, [], drop, map, ℕ, ◌∷◌}
+use Rattle.std.specs.Prelude.{List, Option, Vec, [], drop, map, ℕ, ◌∷◌}
 use Rattle.std.specs.declared.alloc.Global.{Global}
 use Rattle.std.proofs.Common.{arith}
 use Rattle.lt_model.specs.Fair.{AreShort, Feed}
@@ -16,6 +16,10 @@ source_left s = drop s.at s.bytes
 abbrev pub source_plan : MemSource → Plan
 source_plan s = s.calls
 
+-- how many bytes were left when it first failed
+abbrev pub source_failed_at : MemSource → Option ℕ
+source_failed_at s = s.failed_at
+
 -- ---- a sink
 
 abbrev pub sink_held : MemSink → List ℕ
@@ -27,6 +31,10 @@ sink_plan s = s.calls
 -- how many writes found no memory
 abbrev pub sink_lacks : MemSink → ℕ
 sink_lacks s = s.lacks
+
+-- how many bytes it held when it first failed
+abbrev pub sink_failed_at : MemSink → Option ℕ
+sink_failed_at s = s.failed_at
 
 -- ---- a feed
 

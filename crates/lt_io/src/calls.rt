@@ -50,6 +50,7 @@ impl Calls {
         ensures answer { result ≡ fails_next self.old }
         ensures counts { self.new ≡ after_call self.old }
         ensures later { self.old.faults ≤ self.new.faults }
+        ensures made { self.old.made ≤ self.new.made }
     {
         self.made = self.made.saturating_add(1);
         let fails = self.failing.contains(&self.made);

@@ -1,9 +1,9 @@
 //! A source in memory. A read takes time by what it gives.
 
-ghost use Rattle.std.specs.Prelude.{◌≡◌, ◌<◌, ◌≤◌, Some, length, min, take, is_err, IfOk, OnOk, OnErr};
+ghost use Rattle.std.specs.Prelude.{◌≡◌, ◌<◌, ◌≤◌, None, Some, length, min, take, is_err, IfOk, OnOk, OnErr};
 ghost use Rattle.std.specs.Io.KnownBytes.{ReadConsumes};
 ghost use Rattle.lt_model.specs.Disk.{HasCause};
-ghost use Rattle.lt_model.specs.Outside.{StaysTold};
+ghost use Rattle.lt_model.specs.Outside.{KeepsFirstFault, StaysTold};
 ghost use Rattle.lt_io.specs.Plan.{no_plan, listing, GoesByPlan, FailsOnly};
 
 use crate::calls::Calls;
@@ -17,22 +17,26 @@ pub struct MemSource {
     bytes: Blob,
     at: usize,
     calls: Calls,
+    /// How many bytes were left when it first failed.
+    failed_at: Option<usize>,
     ghost within: { at ≤ length bytes },
     pub ghost fails_only: { FailsOnly calls 0 },
 }
 
 impl MemSource {
-    ghost use Rattle.lt_io.specs.Memory.{source_left, source_plan};
+    ghost use Rattle.lt_io.specs.Memory.{source_failed_at, source_left, source_plan};
 
     pub fn new(bytes: Blob) -> MemSource
         ensures left { source_left result ≡ bytes }
         ensures plan { source_plan result ≡ no_plan }
+        ensures unfailed { source_failed_at result ≡ None }
     {
         let alloc = bytes.allocator();
         MemSource {
             bytes,
             at: 0,
             calls: Calls::new(alloc),
+            failed_at: None,
         }
     }
 
@@ -41,17 +45,20 @@ impl MemSource {
         ensures ok { OnOk result (source_plan self.new ≡ listing (source_plan self.old) calls.now) }
         ensures err { OnErr result (source_plan self.new ≡ source_plan self.old) }
         ensures left { source_left self.new ≡ source_left self.old }
+        ensures failed { source_failed_at self.new ≡ source_failed_at self.old }
     {
         self.calls.list(calls)
     }
 }
 
 impl Source for MemSource {
-    ghost use Rattle.lt_io.specs.Memory.{source_left, source_plan};
+    ghost use Rattle.lt_io.specs.Memory.{source_failed_at, source_left, source_plan};
 
     ghost left = { λ s. Some (source_left s) };
 
     ghost faults = { λ s. (source_plan s).faults };
+
+    ghost failed_at = { λ s. source_failed_at s };
 
     #[tactic(auto, using(crate::proofs::Plans::cause_by_plan, crate::proofs::Streams::consumed))]
     fn read(&mut self, buf: &mut [u8]) -> Result<usize, ReadFault>
@@ -60,9 +67,13 @@ impl Source for MemSource {
         ensures bytes { ReadConsumes (Some (source_left self.old)) (Some (source_left self.new)) result buf.new }
         ensures stays { StaysTold (Some (source_left self.old)) (Some (source_left self.new)) }
         ensures cause { HasCause (source_plan self.old).faults (source_plan self.new).faults result }
+        ensures first_fault { KeepsFirstFault (Some (source_left self.new)) (source_failed_at self.old) (source_failed_at self.new) result }
         ensures plan { GoesByPlan (source_plan self.old) (source_plan self.new) (is_err result) }
     {
         if self.calls.next_fails() {
+            if self.failed_at.is_none() {
+                self.failed_at = Some(self.bytes.len() - self.at);
+            }
             return Err(ReadFault);
         }
         let (_, rest) = self.bytes.as_slice().split_at(self.at);

@@ -4,7 +4,7 @@
 ghost use Rattle.std.specs.Prelude.{◌≡◌, ◌<◌, ◌≤◌, ℕ, List, None, length, IfOk};
 ghost use Rattle.std.specs.Io.KnownBytes.{ReadConsumes, WriteAppends};
 ghost use Rattle.lt_model.specs.Disk.{HasCause};
-ghost use Rattle.lt_model.specs.Outside.{StaysTold};
+ghost use Rattle.lt_model.specs.Outside.{KeepsFirstFault, StaysTold};
 
 use crate::faults::{ReadFault, WriteFault};
 use crate::sink::Sink;
@@ -36,12 +36,15 @@ impl<R: Read> Source for StdSource<R> {
 
     ghost faults = { λ s. s.faults };
 
+    ghost failed_at = { λ _. None };
+
     fn read(&mut self, buf: &mut [u8]) -> Result<usize, ReadFault>
         requires { 0 < length buf.old }
         ensures bound { IfOk result (λ n. n ≤ length buf.new) }
         ensures bytes { ReadConsumes None None result buf.new }
         ensures stays { StaysTold {A = List ℕ} None None }
         ensures cause { HasCause (std_source_faults self.old) (std_source_faults self.new) result }
+        ensures first_fault { KeepsFirstFault None None None result }
         ensures passes { ReadConsumes (R.remaining (std_source_inner self.old)) (R.remaining (std_source_inner self.new)) result buf.new }
     {
         let answer = read_some(&mut self.inner, buf);
@@ -94,12 +97,15 @@ impl<W: Write> Sink for StdSink<W> {
 
     ghost faults = { λ s. s.faults };
 
+    ghost failed_at = { λ _. None };
+
     fn write(&mut self, bytes: &[u8]) -> Result<usize, WriteFault>
         requires { 0 < length bytes.now }
         ensures bound { IfOk result (λ n. (0 < n) × (n ≤ length bytes.now)) }
         ensures bytes { WriteAppends None None result bytes.now }
         ensures stays { StaysTold {A = List ℕ} None None }
         ensures cause { HasCause (std_sink_faults self.old) (std_sink_faults self.new) result }
+        ensures first_fault { KeepsFirstFault None None None result }
         ensures passes { WriteAppends (W.contents (std_sink_inner self.old)) (W.contents (std_sink_inner self.new)) result bytes.now }
     {
         let answer = write_some(&mut self.inner, bytes);

@@ -13,8 +13,8 @@ use Rattle.lt_model.specs.Script.{Command, Line, bad_line, do_pump, do_scan, lin
 use Rattle.lt_model.specs.Reply.{scan_done}
 use Rattle.lt_model.specs.Disk.{Rose}
 use Rattle.lt_model.specs.Machine.{Answer, State, StreamAt, Takes, behind_header, fresh, moved_by, opened, with_items}
-use Rattle.lt_model.specs.Run.{CauseOf, Counts, IsOver, answer_text, Rules, StartFault, start_feed, start_mismatch, usage_text}
-use Rattle.lt_model.specs.Program.{IsCut, IsFront, RunEnds, Stops, Told, Trace}
+use Rattle.lt_model.specs.Run.{CauseOf, Counts, HasBegun, IsOver, answer_text, Rules, StartFault, start_feed, start_mismatch, usage_text}
+use Rattle.lt_model.specs.Program.{IsFront, RunEnds, Stops, Told, Trace}
 use Rattle.lt_model.specs.Outside.{Causes, caused_by}
 use Rattle.lt_model.specs.declared.Format.TheVariants as format
 use Rattle.lt_model.specs.declared.KeyKind.TheVariants as key_kind
@@ -114,13 +114,13 @@ NotBegun old new start_feed = Rose old.counts.feed new.counts.feed
 NotBegun old new (start_mismatch n) = (n ≡ 0) × (IsOneStream new.feed → ⊥)
 NotBegun old new e = ⊥
 
--- By the words: the usage line; a run that does not begin; a run of the script, from the feed as it stands when it begins.
+-- By the words: the usage line; a run that does not begin; a run of the script, from the feed and the counts as they stand when it begins.
 pub data Ends (words : List (List ℕ)) (old new : Told) (t : Trace) (status : ℕ) : Type 0 where
   usage : is_run words ≡ false → status ≡ 2 → t.written ≡ usage_text → t.taken ≡ [] → t.moments ≡ [] → Ends words old new t status
-  usage_cut : is_run words ≡ false → IsCut status → IsFront t.written usage_text → t.taken ≡ [] → t.moments ≡ [] → Ends words old new t status
+  usage_cut : is_run words ≡ false → status ≡ 4 → IsFront t.written usage_text → t.taken ≡ [] → t.moments ≡ [] → Ends words old new t status
   not_begun : is_run words ≡ true → Stops (NotBegun old new) t.written status → t.taken ≡ [] → t.moments ≡ [] → Ends words old new t status
-  ran : is_run words ≡ true → (f : Feed) → Grows old.feed f → IsOneStream f → RunEnds only_rules f old.counts new.counts only_session old.script t status
-      → IsOver f old.counts t.moments status new.feed new.counts → Ends words old new t status
+  ran : is_run words ≡ true → (f : Feed) (n : Counts) → Grows old.feed f → HasBegun old.counts n → IsOneStream f → RunEnds only_rules f n new.counts only_session old.script t status
+      → IsOver f n t.moments status new.feed new.counts → Ends words old new t status
 
 -- What a call of the program did: one trace says what was taken, what was written, and what the lines did.
 pub record Did (words : List (List ℕ)) (old new : Told) (status : ℕ) : Type 0 where

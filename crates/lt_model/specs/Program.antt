@@ -14,7 +14,7 @@ use Rattle.lt_model.specs.Disk.{Rose, bytes_in}
 use Rattle.lt_model.specs.Store.{CountsAsRoot, Durable, HasNoStore, Holds, HoldsAt, IsIndex, IsManifest, Manifest, Placing, TableIndex, are_apart, extents_of, root_extent}
 use Rattle.lt_model.specs.Machine.{State, fresh, last_of, opened}
 use Rattle.lt_model.specs.Sound.{IsSound, LeavesPart}
-use Rattle.lt_model.specs.Run.{Attaches, CauseOf, Counts, IsDamaged, IsMismatch, IsOver, Moment, Rules, Runs, StartFault, Words, init_text, is_known_index, lines_ended, max_script, no_store, no_words_known, run_text, script_fault_text, start_damaged, start_disk, start_feed, start_mismatch, start_status, start_text, states_of, store_there, too_long_text, usage_text, word_gen, word_init, word_run}
+use Rattle.lt_model.specs.Run.{Attaches, CauseOf, Counts, HasBegun, IsDamaged, IsMismatch, IsOver, Moment, Rules, Runs, StartFault, Words, init_text, is_known_index, lines_ended, max_script, no_store, no_words_known, run_text, script_fault_text, start_damaged, start_disk, start_feed, start_mismatch, start_status, start_text, states_of, store_there, too_long_text, usage_text, word_gen, word_init, word_run}
 use Rattle.lt_model.specs.Outside.{AreBesides, Causes, LacksRoom, caused_by}
 use Rattle.lt_model.specs.declared.Format.TheVariants as format
 use Rattle.lt_model.specs.declared.Op.TheVariants as ops
@@ -37,7 +37,7 @@ pub record Trace : Type 0 where
 abbrev pub IsFront : List ℕ → List ℕ → Type 0
 IsFront a b = (rest : List ℕ) × (b ≡ a ++ rest)
 
--- a failing sink, or want of memory
+-- a failing sink, or want of memory, which writes no line
 abbrev pub IsCut : ℕ → Type 0
 IsCut status = (status ≡ 4) ⊎ (status ≡ 10)
 
@@ -62,14 +62,15 @@ run_cause n m f s c r = caused_by (line_causes n m f s c) r
 abbrev pub run_rules : Rules
 run_rules = record { reads = line_of; cause = run_cause }
 
--- A run that a failing sink or want of memory ends: a front of the text stands, which may end within the line that says why it stops.
-pub data EndsEarly (rules : Rules) (f : Feed) (n end_counts : Counts) (s : State) (script : List ℕ) (t : Trace) : Type 0 where
+-- A run that a failing sink or want of memory ends: a front of the text stands. With a failing sink it may end within the line that says
+-- why the run stops.
+pub data EndsEarly (rules : Rules) (f : Feed) (n end_counts : Counts) (s : State) (script : List ℕ) (t : Trace) (status : ℕ) : Type 0 where
   -- of the lines that were ended in what was taken some first ones were answered
-  in_replies : (part : List ℕ) → IsFront part t.taken → length part ≤ max_script → Runs rules f n s (lines_ended part) t.moments → IsFront t.written (run_text t.moments) → EndsEarly rules f n end_counts s script t
+  in_replies : (part : List ℕ) → IsFront part t.taken → length part ≤ max_script → Runs rules f n s (lines_ended part) t.moments → IsFront t.written (run_text t.moments) → EndsEarly rules f n end_counts s script t status
   -- the script was read to its end, and all lines were answered
-  in_last_line : t.taken ≡ script → length script ≤ max_script → Runs rules f n s (script_lines script) t.moments → IsFront t.written (run_text t.moments) → EndsEarly rules f n end_counts s script t
-  in_script_fault : Rose n.script end_counts.script → length t.taken ≤ max_script → Runs rules f n s (lines_ended t.taken) t.moments → IsFront t.written (run_text t.moments ++ script_fault_text) → EndsEarly rules f n end_counts s script t
-  in_too_long : max_script < length script → Runs rules f n s (lines_ended (take max_script script)) t.moments → IsFront t.written (run_text t.moments ++ too_long_text) → EndsEarly rules f n end_counts s script t
+  in_last_line : t.taken ≡ script → length script ≤ max_script → Runs rules f n s (script_lines script) t.moments → IsFront t.written (run_text t.moments) → EndsEarly rules f n end_counts s script t status
+  in_script_fault : status ≡ 4 → Rose n.script end_counts.script → length t.taken ≤ max_script → Runs rules f n s (lines_ended t.taken) t.moments → IsFront t.written (run_text t.moments ++ script_fault_text) → EndsEarly rules f n end_counts s script t status
+  in_too_long : status ≡ 4 → max_script < length script → Runs rules f n s (lines_ended (take max_script script)) t.moments → IsFront t.written (run_text t.moments ++ too_long_text) → EndsEarly rules f n end_counts s script t status
 
 -- A run of a script from an opened session, by its status.
 pub data RunEnds (rules : Rules) (f : Feed) (n end_counts : Counts) (s : State) (script : List ℕ) (t : Trace) (status : ℕ) : Type 0 where
@@ -79,7 +80,7 @@ pub data RunEnds (rules : Rules) (f : Feed) (n end_counts : Counts) (s : State) 
   script_failed : status ≡ 3 → Rose n.script end_counts.script → length t.taken ≤ max_script → Runs rules f n s (lines_ended t.taken) t.moments → t.written ≡ run_text t.moments ++ script_fault_text → RunEnds rules f n end_counts s script t status
   -- the script is too long; the lines ended within the longest were answered
   script_too_long : status ≡ 9 → max_script < length script → Runs rules f n s (lines_ended (take max_script script)) t.moments → t.written ≡ run_text t.moments ++ too_long_text → RunEnds rules f n end_counts s script t status
-  ended_early : IsCut status → EndsEarly rules f n end_counts s script t → RunEnds rules f n end_counts s script t status
+  ended_early : IsCut status → EndsEarly rules f n end_counts s script t status → RunEnds rules f n end_counts s script t status
 
 -- ---- why no session begins
 
@@ -162,7 +163,7 @@ abbrev pub no_cause : CauseOf
 no_cause n m f s c r = r ≡ out_of_memory
 
 abbrev pub no_counts : Counts
-no_counts = record { feed = 0; script = 0; disk = 0; writes = 0; out = 0; clock = 0 }
+no_counts = record { feed = 0; calls = 0; script = 0; disk = 0; writes = 0; out = 0; clock = 0 }
 
 abbrev pub gen_feed : ℕ → Feed
 gen_feed n = gen_stream n ∷ []
@@ -185,10 +186,11 @@ pub data GenEnds (n : ℕ) (written : List ℕ) (status : ℕ) : Type 0 where
 
 -- ---- how the program ends, by its words
 
--- Why no store is made or opened, and what was written of the line that says so: all of it, or with a failing sink or want of memory a front.
+-- Why no store is made or opened, and what was written of the line that says so: all of it, or with a failing sink a front. With want of
+-- memory nothing is written.
 pub data Stops (caused : StartFault → Type 0) (written : List ℕ) (status : ℕ) : Type 0 where
   stops : (e : StartFault) → caused e → status ≡ start_status e → written ≡ start_text e → Stops caused written status
-  stops_cut : (e : StartFault) → caused e → IsCut status → IsFront written (start_text e) → Stops caused written status
+  stops_cut : (e : StartFault) → caused e → status ≡ 4 → IsFront written (start_text e) → Stops caused written status
   cut_at_once : IsCut status → written ≡ [] → Stops caused written status
 
 -- of the words that make a store
@@ -198,15 +200,15 @@ pub data InitEnds (c : Causes) (most : ℕ) (image : List ℕ) (f : Feed) (writt
   not_made : Stops (MakeCaused c (Some image) (Some f)) written status → InitEnds c most image f written status
 
 -- Of the word that runs a script: the store that is opened is one that a crash may have left; here, of those, what reads. It begins at
--- the feed as it stands then.
+-- the feed and the counts as they stand then.
 pub data ScriptEnds (c : Causes) (image : List ℕ) (old new : Told) (t : Trace) (status : ℕ) : Type 0 where
   not_opened : t.moments ≡ [] → Stops (OpenCaused c (Some image) (Some new.feed)) t.written status → ScriptEnds c image old new t status
-  ran : (d : Durable) (hs : List Header) (f : Feed) → Holds image d → Grows old.feed f → Attaches f (Some (map (λ s. s.low) d.streams)) hs
-      → RunEnds run_rules f old.counts new.counts (opened d hs) old.script t status → IsOver f old.counts t.moments status new.feed new.counts → ScriptEnds c image old new t status
+  ran : (d : Durable) (hs : List Header) (f : Feed) (n : Counts) → Holds image d → Grows old.feed f → HasBegun old.counts n → Attaches f (Some (map (λ s. s.low) d.streams)) hs
+      → RunEnds run_rules f n new.counts (opened d hs) old.script t status → IsOver f n t.moments status new.feed new.counts → ScriptEnds c image old new t status
 
 -- What a call of the program did, by its words, over a disk that reads as an image.
 abbrev pub ProgramEnds : Causes → List ℕ → Told → Told → Words → Trace → ℕ → Type 0
-ProgramEnds c image old new no_words_known t status = (t.moments ≡ []) × (((status ≡ 2) × (t.written ≡ usage_text)) ⊎ (IsCut status × IsFront t.written usage_text))
+ProgramEnds c image old new no_words_known t status = (t.moments ≡ []) × (((status ≡ 2) × (t.written ≡ usage_text)) ⊎ ((status ≡ 4) × IsFront t.written usage_text) ⊎ ((status ≡ 10) × (t.written ≡ [])))
 ProgramEnds c image old new (word_init most) t status = (t.moments ≡ []) × InitEnds c most image new.feed t.written status
 ProgramEnds c image old new word_run t status = ScriptEnds c image old new t status
 ProgramEnds c image old new (word_gen k) t status = (t.moments ≡ []) × GenEnds k t.written status
@@ -229,9 +231,10 @@ AnswersStand left_since f (m ∷ ms) = ((image : List ℕ) → left_since m.coun
 -- ---- clauses of the top call
 
 -- the counts of the objects handed in
-abbrev pub counts_of : {D F S K : Type 0} → (D → ℕ) → (D → ℕ) → (D → ℕ) → (F → ℕ) → (S → ℕ) → (K → ℕ) → D → F → S → K → Counts
-counts_of disk_faults write_faults moment feed_faults script_faults out_faults disk feed script out = record {
+abbrev pub counts_of : {D F S K : Type 0} → (D → ℕ) → (D → ℕ) → (D → ℕ) → (F → ℕ) → (F → ℕ) → (S → ℕ) → (K → ℕ) → D → F → S → K → Counts
+counts_of disk_faults write_faults moment feed_faults feed_calls script_faults out_faults disk feed script out = record {
   feed = feed_faults feed;
+  calls = feed_calls feed;
   script = script_faults script;
   disk = disk_faults disk;
   writes = write_faults disk;
@@ -240,5 +243,8 @@ counts_of disk_faults write_faults moment feed_faults script_faults out_faults d
 }
 
 -- the objects tell and count this
-abbrev pub Tells : Option Feed → Option (List ℕ) → Option (List ℕ) → Counts → Told → Type 0
-Tells feed script written counts t = (feed ≡ Some t.feed) × (script ≡ Some t.script) × (written ≡ Some t.written) × (counts ≡ t.counts)
+pub record Tells (streams : Option Feed) (left held : Option (List ℕ)) (n : Counts) (t : Told) : Type 0 where
+  pub feed : streams ≡ Some t.feed
+  pub script : left ≡ Some t.script
+  pub written : held ≡ Some t.written
+  pub counts : n ≡ t.counts

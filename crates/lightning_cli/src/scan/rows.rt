@@ -7,14 +7,11 @@ ghost use Rattle.lt_core.specs.View.{view_parts, view_settings};
 ghost use Rattle.lt_records.specs.View.{view_change, view_item};
 ghost use Rattle.lightning_cli.specs.Scans.{cells_of, held_at, key_number, laid_over, rows_by, view_cell, view_cells, view_rows, with_change, with_item};
 
-use lt_core::{KeyPart, KeyParts, Memory, Op, Settings, Ts, Value};
+use crate::table::{COLUMN_A, COLUMN_B, number_of};
+use lt_core::{Memory, Op, Settings, Ts, Value};
 use lt_records::{ChangeRecord, LogRecord};
 use std::alloc::Global;
 use std::collections::BTreeMap;
-
-const COLUMN_A: u16 = 1;
-
-const COLUMN_B: u16 = 2;
 
 /// What was set last of each column of a row, if anything was.
 #[derive(Clone, Copy, Debug)]
@@ -90,16 +87,6 @@ fn update_row<'a>(rows: &mut Rows<'a>, key: i64, set: Cells<'a>) -> Result<(), M
             let now = overlaid(set, *was);
             put_row(rows, key, now)
         }
-    }
-}
-
-/// The number that a key is.
-fn number_of(key: &KeyParts) -> Option<i64>
-    ensures { result ≡ key_number (view_parts key.now) }
-{
-    match key.as_slice() {
-        [KeyPart::Int(number)] => Some(*number),
-        _ => None,
     }
 }
 

@@ -1,10 +1,10 @@
 //! Answers to commands: the text that each is answered with, and what it leaves of the session.
 
-ghost use Rattle.std.specs.Prelude.{◌≡◌, ◌<◌, ℕ, Some, IfOk};
+ghost use Rattle.std.specs.Prelude.{◌≡◌, ◌<◌, Some, IfOk};
 ghost use Rattle.lt_model.specs.Fair.{Feed as Streams};
 ghost use Rattle.lt_model.specs.OneTable.{HasTaken, scan_query};
 ghost use Rattle.lt_model.specs.Script.{do_pump, do_scan};
-ghost use Rattle.lightning_cli.specs.Sessions.{Answered, FeedGoes, taken};
+ghost use Rattle.lightning_cli.specs.Sessions.{Answered, FeedCounts, FeedGoes, taken};
 
 use crate::scan::scan;
 use crate::session::Session;
@@ -24,8 +24,8 @@ impl Session {
     ) -> Result<Blob, Memory>
         requires { 0 < F.known feed.old }
         ensures answered { (f g : Streams) → F.told feed.old ≡ Some f → F.told feed.new ≡ Some g → HasTaken f (taken self.old)
-            → HasTaken g (taken self.new) × IfOk result (Answered (F.faults feed.old) (F.faults feed.new) (taken self.old) (taken self.new) (do_pump 0 count) g) }
-        ensures feed { FeedGoes (F.told feed.old) (F.told feed.new) (F.known feed.old) (F.known feed.new) (F.faults feed.old) (F.faults feed.new) }
+            → HasTaken g (taken self.new) × IfOk result (Answered (F.faults feed.old, F.calls feed.old) (F.faults feed.new, F.calls feed.new) (taken self.old) (taken self.new) (do_pump 0 count) g) }
+        ensures feed { FeedGoes (F.told feed.old) (F.told feed.new) (F.known feed.old) (F.known feed.new) (F.faults feed.old, F.calls feed.old) (F.faults feed.new, F.calls feed.new) }
     {
         match self.pump(alloc, count, feed) {
             Ok((records, stop)) => {
@@ -38,7 +38,7 @@ impl Session {
 
     /// Gives the rows at a timestamp, unless it lies above the checkpoint.
     pub fn answer_scan(&self, alloc: Global, at: Ts) -> Result<Blob, Memory>
-        ensures { (k : ℕ) (g : Streams) → HasTaken g (taken self.now) → IfOk result (Answered k k (taken self.now) (taken self.now) (do_scan (scan_query at)) g) }
+        ensures { (k : FeedCounts) (g : Streams) → HasTaken g (taken self.now) → IfOk result (Answered k k (taken self.now) (taken self.now) (do_scan (scan_query at)) g) }
     {
         let safe = self.checkpoint();
         if at > safe {

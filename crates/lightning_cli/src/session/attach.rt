@@ -33,7 +33,7 @@ pub fn look<F: Feed>(feed: &mut F) -> Result<(), AttachRefusal>
     ensures fault { IsErrOf result AttachRefusal.Feed → Rose (F.faults feed.old) (F.faults feed.new) }
     ensures no_memory { IsErrOf result AttachRefusal.Memory → ⊥ }
     ensures kept { OnOk result (F.faults feed.new ≡ F.faults feed.old) }
-    ensures feed { FeedGoes (F.told feed.old) (F.told feed.new) (F.known feed.old) (F.known feed.new) (F.faults feed.old) (F.faults feed.new) }
+    ensures feed { FeedGoes (F.told feed.old) (F.told feed.new) (F.known feed.old) (F.known feed.new) (F.faults feed.old, F.calls feed.old) (F.faults feed.new, F.calls feed.new) }
 {
     let streams = feed.streams()?;
     if streams != 1 {
@@ -51,7 +51,7 @@ fn begins_with<F: Feed>(front: &[u8], feed: &mut F) -> Result<bool, FeedFault>
     ensures begins { IfOk result (λ b. IfSome (F.told feed.new) (λ f. (b ≡ true) ↔ IsAhead f 0 front.now)) }
     ensures fault { OnErr result (Rose (F.faults feed.old) (F.faults feed.new)) }
     ensures kept { OnOk result (F.faults feed.new ≡ F.faults feed.old) }
-    ensures feed { FeedGoes (F.told feed.old) (F.told feed.new) (F.known feed.old) (F.known feed.new) (F.faults feed.old) (F.faults feed.new) }
+    ensures feed { FeedGoes (F.told feed.old) (F.told feed.new) (F.known feed.old) (F.known feed.new) (F.faults feed.old, F.calls feed.old) (F.faults feed.new, F.calls feed.new) }
 {
     let mut at = 0;
     while at < front.len() {
@@ -73,7 +73,7 @@ fn matched<F: Feed>(at: u64, want: &[u8], feed: &mut F) -> Result<usize, FeedFau
     ensures matches { IfOk result (λ n. IfSome (F.told feed.new) (λ f. Matches n f at want.now)) }
     ensures fault { OnErr result (Rose (F.faults feed.old) (F.faults feed.new)) }
     ensures kept { OnOk result (F.faults feed.new ≡ F.faults feed.old) }
-    ensures feed { FeedGoes (F.told feed.old) (F.told feed.new) (F.known feed.old) (F.known feed.new) (F.faults feed.old) (F.faults feed.new) }
+    ensures feed { FeedGoes (F.told feed.old) (F.told feed.new) (F.known feed.old) (F.known feed.new) (F.faults feed.old, F.calls feed.old) (F.faults feed.new, F.calls feed.new) }
 {
     let mut piece = [0u8; PIECE];
     let count = feed.read_at(0, at, &mut piece)?;

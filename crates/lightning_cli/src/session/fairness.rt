@@ -14,20 +14,11 @@ ghost use Rattle.lt_core.specs.View.{view_parts, view_setting, view_settings, vi
 ghost use Rattle.lt_records.specs.View.{view_change, view_item};
 ghost use Rattle.lightning_cli.specs.Points.{PointOf, fits_column, is_only_key, last_at, time_fault, view_unfair};
 
-use lt_core::{KeyPart, KeyParts, Memory, Op, Settings, Ts, Value};
+use crate::table::{COLUMN_A, COLUMN_B, TABLE, VERSION, number_of};
+use lt_core::{Memory, Op, Settings, Ts, Value};
 use lt_records::{ChangeRecord, LogRecord};
 use std::alloc::Global;
 use std::collections::BTreeMap;
-
-const TABLE: u32 = 1;
-
-const VERSION: u32 = 1;
-
-/// The number of the column of numbers.
-const NUMBERS: u16 = 1;
-
-/// The number of the column of texts.
-const TEXTS: u16 = 2;
 
 /// What a record breaks.
 #[derive(Clone, Copy, Debug, PartialEq, Eq)]
@@ -86,7 +77,7 @@ impl Point {
         if change.version != VERSION {
             return Some(Unfair::UnknownVersion(change.version));
         }
-        let Some(key) = key_of(&change.key) else {
+        let Some(key) = number_of(&change.key) else {
             return Some(Unfair::Shape);
         };
         if !has_shape(change.op, &change.set) {
@@ -126,7 +117,7 @@ impl Point {
         match item {
             LogRecord::Header(_) => Ok(()),
             LogRecord::Change(change) => {
-                let Some(key) = key_of(&change.key) else {
+                let Some(key) = number_of(&change.key) else {
                     return Ok(());
                 };
                 self.last.insert(key, change.ts)?;
@@ -137,17 +128,6 @@ impl Point {
                 Ok(())
             }
         }
-    }
-}
-
-/// The one number that the key is, if it is that.
-fn key_of(parts: &KeyParts) -> Option<i64>
-    ensures some { IfSome result (λ z. (view_parts parts.now ≡ int_part z ∷ []) × (is_only_key (view_parts parts.now) ≡ true)) }
-    ensures none { IfNone result (is_only_key (view_parts parts.now) ≡ false) }
-{
-    match parts.as_slice() {
-        [KeyPart::Int(number)] => Some(*number),
-        _ => None,
     }
 }
 
@@ -167,7 +147,7 @@ fn are_all_columns(set: &Settings) -> bool
     ensures { result ≡ same_numbers (map (λ s. s.0) (view_settings set.now)) (map (λ c. c.number) only_version.columns) }
 {
     match set.as_slice() {
-        [(first, _), (second, _)] => *first == NUMBERS && *second == TEXTS,
+        [(first, _), (second, _)] => *first == COLUMN_A && *second == COLUMN_B,
         _ => false,
     }
 }
@@ -187,9 +167,9 @@ fn all_fit(set: &Settings) -> bool
 fn fits(setting: &(u16, Value)) -> bool
     ensures { result ≡ fits_column (view_setting setting.now) }
 {
-    if setting.0 == NUMBERS {
+    if setting.0 == COLUMN_A {
         is_number(&setting.1)
-    } else if setting.0 == TEXTS {
+    } else if setting.0 == COLUMN_B {
         is_text(&setting.1)
     } else {
         false
@@ -202,6 +182,7 @@ fn is_number(value: &Value) -> bool
     match value {
         Value::Null => true,
         Value::Int(number) => {
+            // The contract knows that a number fits its type where the body has read it.
             let _number = *number;
             true
         }
@@ -215,6 +196,7 @@ fn is_text(value: &Value) -> bool
     match value {
         Value::Null => true,
         Value::Text(text) => {
+            // As above, that a text is UTF-8.
             let _text = text.as_slice();
             true
         }

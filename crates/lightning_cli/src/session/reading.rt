@@ -66,7 +66,7 @@ pub fn find<F: Feed>(
     ensures fault { IsErrOf result PumpFault.Feed → Rose (F.faults feed.old) (F.faults feed.new) }
     ensures kept { OnOk result (F.faults feed.new ≡ F.faults feed.old) }
     ensures lacks { IsErrOf result PumpFault.Memory → F.faults feed.new ≡ F.faults feed.old }
-    ensures feed { FeedGoes (F.told feed.old) (F.told feed.new) (F.known feed.old) (F.known feed.new) (F.faults feed.old) (F.faults feed.new) }
+    ensures feed { FeedGoes (F.told feed.old) (F.told feed.new) (F.known feed.old) (F.known feed.new) (F.faults feed.old, F.calls feed.old) (F.faults feed.new, F.calls feed.new) }
 {
     for _ in 0..u64::MAX {
         match next(alloc, ahead.left())? {
@@ -95,7 +95,7 @@ fn more<F: Feed>(
     ensures fault { IsErrOf result PumpFault.Feed → Rose (F.faults feed.old) (F.faults feed.new) }
     ensures kept { OnOk result (F.faults feed.new ≡ F.faults feed.old) }
     ensures lacks { IsErrOf result PumpFault.Memory → F.faults feed.new ≡ F.faults feed.old }
-    ensures feed { FeedGoes (F.told feed.old) (F.told feed.new) (F.known feed.old) (F.known feed.new) (F.faults feed.old) (F.faults feed.new) }
+    ensures feed { FeedGoes (F.told feed.old) (F.told feed.new) (F.known feed.old) (F.known feed.new) (F.faults feed.old, F.calls feed.old) (F.faults feed.new, F.calls feed.new) }
 {
     let mut piece = new_piece(alloc)?;
     let buffer = piece.as_mut_slice();
@@ -132,7 +132,7 @@ fn read_behind<F: Feed>(
     ensures fault { IsErrOf result PumpFault.Feed → Rose (F.faults feed.old) (F.faults feed.new) }
     ensures kept { OnOk result (F.faults feed.new ≡ F.faults feed.old) }
     ensures lacks { IsErrOf result PumpFault.Memory → F.faults feed.new ≡ F.faults feed.old }
-    ensures feed { FeedGoes (F.told feed.old) (F.told feed.new) (F.known feed.old) (F.known feed.new) (F.faults feed.old) (F.faults feed.new) }
+    ensures feed { FeedGoes (F.told feed.old) (F.told feed.new) (F.known feed.old) (F.known feed.new) (F.faults feed.old, F.calls feed.old) (F.faults feed.new, F.calls feed.new) }
 {
     let at = offset + ahead.left().len() as u64;
     Ok(feed.read_at(0, at, piece)?)

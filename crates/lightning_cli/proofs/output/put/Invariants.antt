@@ -9,6 +9,7 @@ invariant-loop-at g l = record {
   written : Appends (g.K.Sink.held l.fn.out) (g.K.Sink.held l.out) (take l.at l.bytes);
   stays : StaysTold (g.K.Sink.held l.fn.out) (g.K.Sink.held l.out);
   faults : g.K.Sink.faults l.out ≡ g.K.Sink.faults l.fn.out;
+  unfailed : g.K.Sink.failed_at l.out ≡ g.K.Sink.failed_at l.fn.out;
 }
 
 abbrev pub decreases-loop-at : goal.decreases-loop-at

@@ -14,12 +14,13 @@ invariant-loop g l =
       short : l.count ≤ 2 ^ 32;
       turns : l.counter ≤ l.count;
       written : l.server.replies.items ≡ [];
-      feed : FeedGoes (F.told l.fn.feed) (F.told l.feed) (F.known l.fn.feed) (F.known l.feed) (F.faults l.fn.feed) (F.faults l.feed);
+      feed : FeedGoes (F.told l.fn.feed) (F.told l.feed) (F.known l.fn.feed) (F.known l.feed) (F.faults l.fn.feed, F.calls l.fn.feed) (F.faults l.feed, F.calls l.feed);
       script : Goes (S.left l.fn.script) (S.left l.script) (S.faults l.fn.script) (S.faults l.script);
       out : Goes (K.held l.fn.out) (K.held l.out) (K.faults l.fn.out) (K.faults l.out);
       left : IsTaken (S.left l.fn.script) (S.left l.script) l.count;
       unfailed : (K.faults l.out ≡ K.faults l.fn.out) × (S.faults l.script ≡ S.faults l.fn.script);
-      serving : (old now : Told) → Sees (F.told l.fn.feed) (S.left l.fn.script) (K.held l.fn.out) (F.faults l.fn.feed) (K.faults l.fn.out) (S.faults l.fn.script) old
-          → Sees (F.told l.feed) (S.left l.script) (K.held l.out) (F.faults l.feed) (K.faults l.out) (S.faults l.script) now
+      unstopped : (K.failed_at l.out ≡ K.failed_at l.fn.out) × (S.failed_at l.script ≡ S.failed_at l.fn.script);
+      serving : (old now : Told) → Sees (F.told l.fn.feed) (S.left l.fn.script) (K.held l.fn.out) (F.faults l.fn.feed, F.calls l.fn.feed) (K.faults l.fn.out) (S.faults l.fn.script) old
+          → Sees (F.told l.feed) (S.left l.script) (K.held l.out) (F.faults l.feed, F.calls l.feed) (K.faults l.out) (S.faults l.script) now
           → HasTaken old.feed [] → IsServing old now l.count (taken l.server.session) l.server.replies.items l.server.line.items;
     }

@@ -18,7 +18,7 @@ returns-in-Update c =
     let rows = view_rows c.args.rows.now.entries in
     subst (λ (t : Rows). OnOk c.update_row.result (view_rows c.update_row.new.rows.entries ≡ t))
     (ap (λ (z : ℤ). rows_by ops.Update z (view_cells c.cells_set-set.result) rows) (to_z-of_z w64 c.in-Some.key f)
-    ∙ keyed rows (view_change c.args.change.now) c.in-Some.key ops.Update (view_cells c.cells_set-set.result) c.in-Some.ensures c.in-Update.is c.cells_set-set.ensures) c.update_row.ensures
+    ∙ keyed rows (view_change c.args.change.now) c.in-Some.key ops.Update (view_cells c.cells_set-set.result) c.in-Some.ensures.number c.in-Update.is c.cells_set-set.ensures) c.update_row.ensures
 
 pub returns-in-Delete : goal.returns-in-Delete
 returns-in-Delete c =
@@ -27,4 +27,4 @@ returns-in-Delete c =
     ap view_rows c.remove.ensures.entries
     ∙ ap (λ (z : ℤ). view_rows (remove_entry (is_at (int_cmp z)) entries)) (to_z-of_z w64 c.in-Some.key f)
     ∙ removed (is_at (int_cmp c.in-Some.key)) entries
-    ∙ keyed (view_rows entries) (view_change c.args.change.now) c.in-Some.key ops.Delete (view_cells c.cells_set-set.result) c.in-Some.ensures c.in-Delete.is c.cells_set-set.ensures
+    ∙ keyed (view_rows entries) (view_change c.args.change.now) c.in-Some.key ops.Delete (view_cells c.cells_set-set.result) c.in-Some.ensures.number c.in-Delete.is c.cells_set-set.ensures

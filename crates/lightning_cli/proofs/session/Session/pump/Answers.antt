@@ -5,7 +5,8 @@ use Rattle.lightning_cli.specs.Sessions.{taken}
 use Rattle.lightning_cli.specs.Stops.{view_stop}
 use Rattle.lightning_cli.proofs.FeedLaws.{goes_itself, goes_then}
 use Rattle.lightning_cli.proofs.PumpLaws.{mid_told}
-use Rattle.lightning_cli.proofs.TakeLaws.{begins_empty, err_then, none_step, on_err, pumped_all, pumped_early, pumped_some, stepped_none, stepped_stop, takes_one_more, takes_same}
+use Rattle.lightning_cli.proofs.OutLaws.{on_err}
+use Rattle.lightning_cli.proofs.TakeLaws.{begins_empty, err_then, none_step, pumped_all, pumped_early, pumped_some, stepped_none, stepped_stop, takes_one_more, takes_same}
 use Rattle.lightning_cli.proofs.session.Session.pump.Goals as goal
 
 pub loop-records-init : goal.loop-records-init

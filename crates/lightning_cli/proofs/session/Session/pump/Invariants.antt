@@ -13,5 +13,5 @@ invariant-loop-records g l = record {
   more : (items : List Item) × (taken l.self ≡ taken l.fn.self ++ items) × (length items ≡ l.records);
   stands : (f h : Feed) → g.F.Feed.told l.fn.feed ≡ Some f → g.F.Feed.told l.feed ≡ Some h → HasTaken f (taken l.fn.self) → HasTaken h (taken l.self) × IsAhead h l.self.offset (left_of l.ahead);
   kept : g.F.Feed.faults l.feed ≡ g.F.Feed.faults l.fn.feed;
-  goes : FeedGoes (g.F.Feed.told l.fn.feed) (g.F.Feed.told l.feed) (g.F.Feed.known l.fn.feed) (g.F.Feed.known l.feed) (g.F.Feed.faults l.fn.feed) (g.F.Feed.faults l.feed);
+  goes : FeedGoes (g.F.Feed.told l.fn.feed) (g.F.Feed.told l.feed) (g.F.Feed.known l.fn.feed) (g.F.Feed.known l.feed) (g.F.Feed.faults l.fn.feed, g.F.Feed.calls l.fn.feed) (g.F.Feed.faults l.feed, g.F.Feed.calls l.feed);
 }

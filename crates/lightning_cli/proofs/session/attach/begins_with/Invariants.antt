@@ -13,5 +13,5 @@ invariant-loop-at g l = record {
   within : l.at ≤ length l.front;
   front : IfSome (g.F.Feed.told l.feed) (λ f. IsAhead f 0 (take l.at l.front));
   kept : g.F.Feed.faults l.feed ≡ g.F.Feed.faults l.fn.feed;
-  goes : FeedGoes (g.F.Feed.told l.fn.feed) (g.F.Feed.told l.feed) (g.F.Feed.known l.fn.feed) (g.F.Feed.known l.feed) (g.F.Feed.faults l.fn.feed) (g.F.Feed.faults l.feed);
+  goes : FeedGoes (g.F.Feed.told l.fn.feed) (g.F.Feed.told l.feed) (g.F.Feed.known l.fn.feed) (g.F.Feed.known l.feed) (g.F.Feed.faults l.fn.feed, g.F.Feed.calls l.fn.feed) (g.F.Feed.faults l.feed, g.F.Feed.calls l.feed);
 }

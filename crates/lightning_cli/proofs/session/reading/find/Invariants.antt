@@ -10,5 +10,5 @@ invariant-loop g l = record {
   place : l.offset + length (left_of l.ahead) < 2 ^ 63;
   reads : (f h : Feed) → g.F.Feed.told l.fn.feed ≡ Some f → g.F.Feed.told l.feed ≡ Some h → IsAhead f l.offset (left_of l.fn.ahead) → IsAhead h l.offset (left_of l.ahead);
   kept : g.F.Feed.faults l.feed ≡ g.F.Feed.faults l.fn.feed;
-  goes : FeedGoes (g.F.Feed.told l.fn.feed) (g.F.Feed.told l.feed) (g.F.Feed.known l.fn.feed) (g.F.Feed.known l.feed) (g.F.Feed.faults l.fn.feed) (g.F.Feed.faults l.feed);
+  goes : FeedGoes (g.F.Feed.told l.fn.feed) (g.F.Feed.told l.feed) (g.F.Feed.known l.fn.feed) (g.F.Feed.known l.feed) (g.F.Feed.faults l.fn.feed, g.F.Feed.calls l.fn.feed) (g.F.Feed.faults l.feed, g.F.Feed.calls l.feed);
 }
