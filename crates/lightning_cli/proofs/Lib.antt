@@ -17,3 +17,4 @@ pub mod ReplyTexts
 pub mod TakeLaws
 pub mod FairItems
 pub mod SessionLaws
+pub mod TakeFaults

@@ -166,12 +166,25 @@ some_more old mid now bytes piece more written {status} f k h short cut took par
     (part_short h (omega (arith, short, length-append bytes piece)))
     cut same (took ∙ ap (λ x. bytes ++ x) part ∙ sym (append_assoc bytes (piece ++ more) now.script)) wrote feed out script disk
 
+-- some first replies were written, and the others are kept
+pub flushed_some : {f0 : Feed} {n0 : Counts} {bytes written : List ℕ} {f : Feed} {k : FeedCounts} {items : List Item} {replies kept : List ℕ} (first now : List ℕ) → replies ≡ first ++ now
+    → Stands f0 n0 bytes written f k items replies kept → Stands f0 n0 bytes (written ++ first) f k items now kept
+flushed_some {f0} {n0} {bytes} {written} first now e s = record {
+  run = record {
+    moments = s.run.moments;
+    runs = s.run.runs;
+    feed = s.run.feed;
+    counts = s.run.counts;
+    state = s.run.state;
+    has = s.run.has;
+    text = s.run.text ∙ ap (λ r. written ++ r) e ∙ sym (append_assoc written first now);
+  };
+  line = s.line;
+}
+
 -- replies that were written are no longer kept
 pub flushed : {f0 : Feed} {n0 : Counts} {bytes written : List ℕ} {f : Feed} {k : FeedCounts} {items : List Item} {replies kept : List ℕ} (now : List ℕ) → now ≡ [] → Stands f0 n0 bytes written f k items replies kept → Stands f0 n0 bytes (written ++ replies) f k items now kept
-flushed {f0} {n0} {bytes} {written} {f} {k} {items} {replies} {kept} now empty s = subst (λ r. Stands f0 n0 bytes (written ++ replies) f k items r kept) (sym empty) (record {
-  run = record { moments = s.run.moments; runs = s.run.runs; feed = s.run.feed; counts = s.run.counts; state = s.run.state; has = s.run.has; text = s.run.text ∙ sym (append-nil (written ++ replies)) };
-  line = s.line;
-})
+flushed {f0} {n0} {bytes} {written} {f} {k} {items} {replies} {kept} now empty s = flushed_some replies now (sym (append-nil replies) ∙ ap (λ r. replies ++ r) (sym empty)) s
 
 pub regroup : (a b c d : List ℕ) → a ++ ((b ++ c) ++ d) ≡ ((a ++ b) ++ c) ++ d
 regroup a b c d = sym (append_assoc a (b ++ c) d) ∙ ap (λ x. x ++ d) (sym (append_assoc a b c))

@@ -18,6 +18,10 @@ with_feed n k = record n { feed = k.0; calls = k.1 }
 abbrev pub AppendsFront : Option (List ℕ) → Option (List ℕ) → List ℕ → Type 0
 AppendsFront old new bytes = (front : List ℕ) × IsFront front bytes × Appends old new front
 
+-- some first replies were appended, and the others are kept
+abbrev pub WritesSome : Option (List ℕ) → Option (List ℕ) → List ℕ → List ℕ → Type 0
+WritesSome old new replies kept = (first : List ℕ) × Appends old new first × (replies ≡ first ++ kept)
+
 -- These lines were answered from a feed and counts on: the feed and its counts now, the items taken, what was written and the replies
 -- that are not written yet.
 pub record HasRun (f0 : Feed) (n0 : Counts) (lines : List (List ℕ)) (written : List ℕ) (f : Feed) (counted : FeedCounts) (items : List Item) (replies : List ℕ) : Type 0 where

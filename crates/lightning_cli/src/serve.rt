@@ -1,4 +1,5 @@
-//! A run of a script: reads it in large pieces, answers each line that a piece ends, and writes the replies after each piece.
+//! A run of a script: reads it in large pieces, answers each line that a piece ends, and writes the replies after each piece, or sooner
+//! where they are long.
 //!
 //! A run ends where the script does, where it is too long, or where a device fails or memory is lacking.
 
@@ -80,13 +81,10 @@ fn cut<F: Feed, K: Sink>(
     ensures feed { FeedGoes (F.told feed.old) (F.told feed.new) (F.known feed.old) (F.known feed.new) (F.faults feed.old, F.calls feed.old) (F.faults feed.new, F.calls feed.new) }
     ensures out { Goes (K.held out.old) (K.held out.new) (K.faults out.old) (K.faults out.new) }
 {
-    if server.take(alloc, feed, bytes).is_err() {
-        return 10;
+    match server.take(alloc, feed, out, bytes) {
+        Ok(()) => finish(out, TOO_LONG, 9),
+        Err(fault) => fault.status(),
     }
-    if server.flush(out).is_err() {
-        return 4;
-    }
-    finish(out, TOO_LONG, 9)
 }
 
 /// Takes a piece of the script, and writes the replies to the lines that it ends.
@@ -115,13 +113,10 @@ fn digest<F: Feed, K: Sink>(
     ensures feed { FeedGoes (F.told feed.old) (F.told feed.new) (F.known feed.old) (F.known feed.new) (F.faults feed.old, F.calls feed.old) (F.faults feed.new, F.calls feed.new) }
     ensures out { Goes (K.held out.old) (K.held out.new) (K.faults out.old) (K.faults out.new) }
 {
-    if server.take(alloc, feed, piece).is_err() {
-        return Turn::Over(10);
+    match server.take(alloc, feed, out, piece) {
+        Ok(()) => Turn::More(piece.len() as u64),
+        Err(fault) => Turn::Over(fault.status()),
     }
-    if server.flush(out).is_err() {
-        return Turn::Over(4);
-    }
-    Turn::More(piece.len() as u64)
 }
 
 /// Takes what the script gives next. So many bytes were taken before.

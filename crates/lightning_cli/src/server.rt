@@ -1,15 +1,17 @@
 //! A run of a script: takes its bytes as they come, and collects the replies to the lines that they end.
 //!
-//! Each byte is looked at once. Of a line no more is kept than tells whether it is too long. The replies to the lines that one piece of the
-//! script ends are kept until the piece is taken, so memory grows with what they answer.
+//! Each byte is looked at once. Of a line no more is kept than tells whether it is too long, and of the replies no more than 64 KiB and one
+//! line's answer.
 
-ghost use Rattle.std.specs.Prelude.{◌≡◌, ◌<◌, ◌≤◌, ◌++◌, ◌∷◌, [], ℕ, List, Some, OnOk, OnErr};
+ghost use Rattle.std.specs.Prelude.{◌≡◌, ◌<◌, ◌≤◌, ◌++◌, ◌∷◌, [], ℕ, List, Some, IsErrOf, OnOk, OnErr};
 ghost use Rattle.std.specs.Io.KnownBytes.{Appends};
-ghost use Rattle.lt_model.specs.Disk.{HasCause};
-ghost use Rattle.lt_model.specs.Outside.{KeepsFirstFault, StaysTold};
+ghost use Rattle.lt_model.specs.Disk.{HasCause, Rose};
+ghost use Rattle.lt_model.specs.Outside.{FailsAt, KeepsFirstFault, StaysTold};
 ghost use Rattle.lt_model.specs.Fair.{Feed as Streams};
 ghost use Rattle.lt_model.specs.Run.{Counts};
-ghost use Rattle.lightning_cli.specs.Serving.{AppendsFront, HasRun, HasRunSome, Stands, kept_of};
+ghost use Rattle.lightning_cli.specs.Serving.{AppendsFront, Goes, HasRun, Stands, WritesSome, kept_of};
+ghost use Rattle.lightning_cli.specs.Turns.{TakesPiece, take_status};
+ghost use Rattle.lightning_cli.specs.declared.server.TakeFault.TheVariants as faults;
 ghost use Rattle.lightning_cli.specs.Sessions.{FeedGoes, taken};
 
 use crate::line::{self, Line, MAX_LINE};
@@ -22,6 +24,44 @@ use std::alloc::Global;
 const LINE_FEED: u8 = b'\n';
 
 const BAD_LINE: &[u8] = b"refused E1 BadLine\n";
+
+/// How much of the replies is collected before it is written, in bytes.
+const FULL: usize = 65536;
+
+/// Why a run ends within a piece of its script.
+#[derive(Clone, Copy, Debug, PartialEq, Eq)]
+pub enum TakeFault {
+    Memory,
+    Sink,
+}
+
+impl TakeFault {
+    /// The run's status.
+    pub fn status(self) -> u8
+        ensures { result ≡ take_status self }
+    {
+        match self {
+            TakeFault::Memory => 10,
+            TakeFault::Sink => 4,
+        }
+    }
+}
+
+impl From<Memory> for TakeFault {
+    ghost from_gives = { λ _ e. e ≡ faults.Memory };
+
+    fn from(_: Memory) -> Self {
+        TakeFault::Memory
+    }
+}
+
+impl From<WriteFault> for TakeFault {
+    ghost from_gives = { λ _ e. e ≡ faults.Sink };
+
+    fn from(_: WriteFault) -> Self {
+        TakeFault::Sink
+    }
+}
 
 /// A run of a script.
 #[derive(Debug, Drop)]
@@ -53,8 +93,50 @@ impl Server {
         self.replies.as_slice()
     }
 
+    /// Takes further bytes of the script, answers the lines that they end, and writes the replies. An `Err` is the end of the run.
+    pub fn take<F: Feed, K: Sink>(
+        &mut self,
+        alloc: Global,
+        feed: &mut F,
+        out: &mut K,
+        bytes: &[u8],
+    ) -> Result<(), TakeFault>
+        requires { 0 < F.known feed.old }
+        ensures taken { (f g f0 : Streams) (n0 : Counts) (before written : List ℕ) → F.told feed.old ≡ Some f → F.told feed.new ≡ Some g
+            → Stands f0 n0 before written f (F.faults feed.old, F.calls feed.old) (taken self.old.session) self.old.replies.items self.old.line.items
+            → TakesPiece f0 n0 (before ++ bytes.now) written g (F.faults feed.new, F.calls feed.new) (K.held out.old) (K.held out.new) self.new result }
+        ensures written { OnOk result (self.new.replies.items ≡ []) }
+        ensures kept { OnOk result ((K.faults out.new ≡ K.faults out.old) × (K.failed_at out.new ≡ K.failed_at out.old)) }
+        ensures memory { IsErrOf result TakeFault.Memory → (K.faults out.new ≡ K.faults out.old) × (K.failed_at out.new ≡ K.failed_at out.old) }
+        ensures sink { IsErrOf result TakeFault.Sink → Rose (K.faults out.old) (K.faults out.new) × FailsAt (K.held out.new) (K.failed_at out.old) (K.failed_at out.new) }
+        ensures feed { FeedGoes (F.told feed.old) (F.told feed.new) (F.known feed.old) (F.known feed.new) (F.faults feed.old, F.calls feed.old) (F.faults feed.new, F.calls feed.new) }
+        ensures out { Goes (K.held out.old) (K.held out.new) (K.faults out.old) (K.faults out.new) }
+    {
+        for byte in bytes {
+            self.take_byte(alloc, feed, *byte)?;
+            self.flush_full(out)?;
+        }
+        self.flush(out)?;
+        Ok(())
+    }
+
+    /// Writes what was answered where that is much.
+    fn flush_full<K: Sink>(&mut self, out: &mut K) -> Result<(), WriteFault>
+        ensures some { OnOk result (WritesSome (K.held out.old) (K.held out.new) self.old.replies.items self.new.replies.items) }
+        ensures front { OnErr result (AppendsFront (K.held out.old) (K.held out.new) self.old.replies.items) }
+        ensures rest { (self.new.session ≡ self.old.session) × (self.new.line.items ≡ self.old.line.items) }
+        ensures stays { StaysTold (K.held out.old) (K.held out.new) }
+        ensures cause { HasCause (K.faults out.old) (K.faults out.new) result }
+        ensures first_fault { KeepsFirstFault (K.held out.new) (K.failed_at out.old) (K.failed_at out.new) result }
+    {
+        if self.replies.len() < FULL {
+            return Ok(());
+        }
+        self.flush(out)
+    }
+
     /// Writes what was answered. After a fault some first bytes of it may have been written.
-    pub fn flush<K: Sink>(&mut self, out: &mut K) -> Result<(), WriteFault>
+    fn flush<K: Sink>(&mut self, out: &mut K) -> Result<(), WriteFault>
         ensures all { OnOk result (Appends (K.held out.old) (K.held out.new) self.old.replies.items × (self.new.replies.items ≡ [])) }
         ensures front { OnErr result (AppendsFront (K.held out.old) (K.held out.new) self.old.replies.items) }
         ensures rest { (self.new.session ≡ self.old.session) × (self.new.line.items ≡ self.old.line.items) }
@@ -64,23 +146,6 @@ impl Server {
     {
         put(out, self.replies.as_slice())?;
         self.replies.clear();
-        Ok(())
-    }
-
-    /// Takes further bytes of the script, and answers the lines that they end. An `Err` finds no memory, and is the end of the run.
-    pub fn take<F: Feed>(&mut self, alloc: Global, feed: &mut F, bytes: &[u8]) -> Result<(), Memory>
-        requires { 0 < F.known feed.old }
-        ensures ok { (f g f0 : Streams) (n0 : Counts) (before written : List ℕ) → F.told feed.old ≡ Some f → F.told feed.new ≡ Some g
-            → Stands f0 n0 before written f (F.faults feed.old, F.calls feed.old) (taken self.old.session) self.old.replies.items self.old.line.items
-            → OnOk result (Stands f0 n0 (before ++ bytes.now) written g (F.faults feed.new, F.calls feed.new) (taken self.new.session) self.new.replies.items self.new.line.items) }
-        ensures err { (f g f0 : Streams) (n0 : Counts) (before written : List ℕ) → F.told feed.old ≡ Some f → F.told feed.new ≡ Some g
-            → Stands f0 n0 before written f (F.faults feed.old, F.calls feed.old) (taken self.old.session) self.old.replies.items self.old.line.items
-            → OnErr result (HasRunSome f0 n0 (before ++ bytes.now) written g (F.faults feed.new, F.calls feed.new) 10) }
-        ensures feed { FeedGoes (F.told feed.old) (F.told feed.new) (F.known feed.old) (F.known feed.new) (F.faults feed.old, F.calls feed.old) (F.faults feed.new, F.calls feed.new) }
-    {
-        for byte in bytes {
-            self.take_byte(alloc, feed, *byte)?;
-        }
         Ok(())
     }
 

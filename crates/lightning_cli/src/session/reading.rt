@@ -2,7 +2,7 @@
 //!
 //! A look at the front that finds too few bytes takes constant time, so reading takes time by the bytes.
 
-ghost use Rattle.std.specs.Prelude.{◌≡◌, ◌+◌, ◌<◌, ◌≤◌, ◌^◌, length, IfOk, OnOk, IsErrOf, Some};
+ghost use Rattle.std.specs.Prelude.{◌≡◌, ◌+◌, ◌<◌, ◌≤◌, ◌^◌, length, true, IfOk, OnOk, IsErrOf, Some};
 ghost use Rattle.lt_model.specs.Disk.{Rose};
 ghost use Rattle.lt_model.specs.Fair.{Feed as Streams};
 ghost use Rattle.lt_model.specs.Outside.{FeedReads};
@@ -68,7 +68,7 @@ pub fn find<F: Feed>(
     ensures lacks { IsErrOf result PumpFault.Memory → F.faults feed.new ≡ F.faults feed.old }
     ensures feed { FeedGoes (F.told feed.old) (F.told feed.new) (F.known feed.old) (F.known feed.new) (F.faults feed.old, F.calls feed.old) (F.faults feed.new, F.calls feed.new) }
 {
-    for _ in 0..u64::MAX {
+    loop {
         match next(alloc, ahead.left())? {
             Found::Partial => {
                 if !more(alloc, offset, ahead, feed)? {
@@ -78,7 +78,6 @@ pub fn find<F: Feed>(
             found => return Ok(found),
         }
     }
-    Err(PumpFault::Memory)
 }
 
 /// Reads a piece more; false where the stream has none.
@@ -92,6 +91,7 @@ fn more<F: Feed>(
     requires place { offset + length (left_of ahead.old) < 2 ^ 63 }
     ensures place { OnOk result (offset + length (left_of ahead.new) < 2 ^ 63) }
     ensures more { (f g : Streams) → F.told feed.old ≡ Some f → F.told feed.new ≡ Some g → IsAhead f offset (left_of ahead.old) → IfOk result (λ some. More some g offset (left_of ahead.old) (left_of ahead.new)) }
+    ensures longer { IfOk result (λ some. some ≡ true → length (left_of ahead.old) < length (left_of ahead.new)) }
     ensures fault { IsErrOf result PumpFault.Feed → Rose (F.faults feed.old) (F.faults feed.new) }
     ensures kept { OnOk result (F.faults feed.new ≡ F.faults feed.old) }
     ensures lacks { IsErrOf result PumpFault.Memory → F.faults feed.new ≡ F.faults feed.old }
