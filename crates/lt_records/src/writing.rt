@@ -1,4 +1,4 @@
-//! Writing records and values.
+//! Writing records and values. What may not be written whole is spelled aside first, and then copied.
 
 ghost use Rattle.std.specs.Prelude.{◌≡◌, ◌++◌, IsTrue, OnErr, OnOk};
 ghost use Rattle.lt_model.specs.Log.{is_log_value, value_bytes};
