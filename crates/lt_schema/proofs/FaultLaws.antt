@@ -9,6 +9,7 @@ use Rattle.lt_model.specs.Schema.{Catalogue, Column, IsCatalogue, Registered, Sc
 use Rattle.lt_model.specs.Value.{rises_above, rises_strictly}
 use Rattle.lt_schema.specs.Faults.{fault_after, fault_against, fault_alone, fault_among}
 use Rattle.lt_schema.proofs.LimitLaws.{over_limit_is}
+use Rattle.lt_schema.proofs.SeenLaws.{option_or-none}
 
 -- ---- the order of the tests
 
@@ -38,10 +39,6 @@ after versions columns = option_map column_reused (reused_column versions column
     ∷ option_map default_given (default_again versions columns)
     ∷ []
 
-or_none : {A : Type 0} (o : Option A) → option_or o None ≡ o
-or_none None = refl
-or_none (Some a) = refl
-
 -- the tests of the four groups, one after the other
 pub fault_parts : (cat : Catalogue) (v : SchemaVersion) → schema_fault cat v ≡ option_or (fault_alone v) (option_or (fault_among cat v) (option_or (fault_after (versions_of cat v.number) v.columns) (option_map too_many (over_limit (with_version cat v) v))))
 unfolding schema_fault fault_alone fault_among fault_after
@@ -49,7 +46,7 @@ fault_parts cat v =
     let limit = option_map too_many (over_limit (with_version cat v) v) in
     let later = after (versions_of cat v.number) v.columns in
     first_of-append (alone v) (among cat v ++ (later ++ limit ∷ []))
-    ∙ ap (option_or (first_of (alone v))) (first_of-append (among cat v) (later ++ limit ∷ []) ∙ ap (option_or (first_of (among cat v))) (first_of-append later (limit ∷ []) ∙ ap (option_or (first_of later)) (or_none limit)))
+    ∙ ap (option_or (first_of (alone v))) (first_of-append (among cat v) (later ++ limit ∷ []) ∙ ap (option_or (first_of (among cat v))) (first_of-append later (limit ∷ []) ∙ ap (option_or (first_of later)) (option_or-none limit)))
 
 rise_above : (n : ℕ) (ts : Catalogue) → AllPast n ts → NumbersRise ts → IsTrue (rises_above n (map (λ t. t.number) ts))
 rise_above n [] past rise = refl

@@ -19,7 +19,8 @@ use Rattle.lt_schema.specs.declared.version.Column.{Column}
 use Rattle.lt_schema.specs.View.{view_column, view_columns}
 use Rattle.lt_schema.specs.Seen.{Holds}
 
-option_or-none : {A : Type 0} (o : Option A) → option_or o None ≡ o
+-- nothing behind it changes what was found
+pub option_or-none : {A : Type 0} (o : Option A) → option_or o None ≡ o
 option_or-none None = refl
 option_or-none (Some a) = refl
 

@@ -3,11 +3,11 @@ use Rattle.std.proofs.Common.{List, None, Option, Some, [], ap, arith, cond, fal
 use Rattle.std.specs.Prelude.{IsTrue, find, insert, is_some, map, nat_lt, option_and_then, option_map, slice_get, unwrap_or, ◌==◌}
 use Rattle.std.specs.List.{AllByRecursion}
 use Rattle.std.specs.Option.{option_map_or}
-use Rattle.std.proofs.lemmas.Bool.{and_parts, eq-eqb}
-use Rattle.std.proofs.lemmas.Option.{none-some, same_Some, slice_get_past}
+use Rattle.std.proofs.lemmas.Bool.{and_parts, eq-eqb, eqb-false, eqb-true, false≢true}
+use Rattle.std.proofs.lemmas.Option.{none-some, same_Some}
 use Rattle.lt_model.specs.Value.{Value, null_value, rises_above, rises_strictly}
 use Rattle.lt_model.specs.Schema.{Catalogue, Column, Registered, SchemaVersion, Table, carrier, column_fallback, column_numbered, fallback_in, has_column, joined_all, kinds_given, live_version, new_table, table_numbered, versions_of, with_version}
-use Rattle.lt_schema.specs.Catalogues.{IsPlace}
+use Rattle.lt_schema.specs.Catalogues.{IsPlace, is_at}
 use Rattle.lt_schema.specs.Lookups.{declared}
 
 -- ---- look-ups through a table's versions
@@ -117,13 +117,16 @@ unknown_at (u ∷ cat) v zero rise lower within past =
     ap (λ b. cond b (Some u) (table_numbered cat v.number)) (higher_apart u.number v.number lt) ∙ unknown cat v.number u.number rise (omega (arith, lt))
 unknown_at (u ∷ cat) v (suc at) rise lower within past = passed u cat v lower.0 ∙ unknown_at cat v at (rise_behind u.number (map (λ t. t.number) cat) rise) lower.1 (omega arith) past
 
--- the one at the place is another
-pub past_other : (cat : Catalogue) (n at : ℕ) (u : Table) → IsPlace cat n at → slice_get cat at ≡ Some u → (u.number ≡ n → ⊥) → (t : Table) → slice_get cat at ≡ Some t → n < t.number
-past_other cat n at u place got other t e =
-    let same : u ≡ t = same_Some u t (sym got ∙ e) in
-    let number : u.number ≡ t.number = ap (λ (x : Table). x.number) same in
-    omega (arith, place.stops u got, other, number)
+there_by : (o : Option Table) (n : ℕ) → option_map_or (λ t. t.number == n) o false ≡ true → (t : Table) × (o ≡ Some t) × (t.number ≡ n)
+there_by None n e = absurd (false≢true e)
+there_by (Some t) n e = (t, refl, eqb-true t.number n e)
 
--- there is none at the place
-pub past_end : (cat : Catalogue) (n at : ℕ) → length cat ≤ at → (t : Table) → slice_get cat at ≡ Some t → n < t.number
-past_end cat n at all t e = absurd (none-some t (sym (slice_get_past cat at all) ∙ e))
+-- the one at the place has the number
+pub there : (cat : Catalogue) (at n : ℕ) → is_at cat at n ≡ true → (t : Table) × (slice_get cat at ≡ Some t) × (t.number ≡ n)
+there cat at n e = there_by (slice_get cat at) n e
+
+-- it has not, and is past it
+pub past_other : (cat : Catalogue) (n at : ℕ) → IsPlace cat n at → is_at cat at n ≡ false → (t : Table) → slice_get cat at ≡ Some t → n < t.number
+past_other cat n at place other t got =
+    let differs : t.number == n ≡ false = sym (ap (λ o. option_map_or (λ t. t.number == n) o false) got) ∙ other in
+    omega (arith, place.stops t got, eqb-false t.number n differs)

@@ -1,6 +1,7 @@
 -- A catalogue, and how the code goes over its tables.
-use Rattle.std.specs.Prelude.{IsTrue, None, Some, if◌then◌else◌, is_some, length, map, slice_get, suc, take, ℕ, ◌+◌, ◌<◌, ◌≡◌, ◌≤◌}
+use Rattle.std.specs.Prelude.{Bool, IsTrue, None, Some, false, if◌then◌else◌, is_some, length, map, slice_get, suc, take, ℕ, ◌+◌, ◌<◌, ◌==◌, ◌≡◌, ◌≤◌}
 use Rattle.std.specs.List.{AllByRecursion}
+use Rattle.std.specs.Option.{option_map_or}
 use Rattle.lt_model.specs.Value.{rises_strictly}
 use Rattle.lt_model.specs.Schema.{Catalogue, IsCatalogue, SchemaVersion, Table, live_version, table_numbered, whole_version}
 use Rattle.lt_core.specs.declared.value.Value.TheVariants as values
@@ -16,6 +17,10 @@ pub record IsPlace (cat : Catalogue) (number at : ℕ) : Type 0 where
   pub within : at ≤ length cat
   pub lower : AllByRecursion (λ t. t.number < number) (take at cat)
   pub stops : (t : Table) → slice_get cat at ≡ Some t → number ≤ t.number
+
+-- the table at that place has the number
+abbrev pub is_at : Catalogue → ℕ → ℕ → Bool
+is_at cat at number = option_map_or (λ t. t.number == number) (slice_get cat at) false
 
 -- the version is the next of its table, or the first of a fresh one
 pub record IsNext (cat : Catalogue) (v : SchemaVersion) : Type 0 where

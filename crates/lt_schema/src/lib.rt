@@ -13,3 +13,6 @@ mod version;
 pub use catalogue::Catalogue;
 pub use refusal::{RetireRefusal, SchemaRefusal};
 pub use version::{Column, Columns, KeyColumn, KeyColumns, SchemaVersion};
+
+#[cfg(test)]
+mod tests;

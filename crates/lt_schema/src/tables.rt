@@ -3,7 +3,7 @@
 ghost use Rattle.std.specs.Prelude.{◌≡◌, ◌==◌, ◌<◌, ◌≤◌, if◌then◌else◌, length, map, OnErr, OnOk};
 ghost use Rattle.std.specs.Option.{option_copied};
 ghost use Rattle.lt_model.specs.Schema.{is_key_changed, is_mismatch, same_key_columns, same_key_kind, table_named, table_numbered, versions_of, with_retired, with_version, without_version};
-ghost use Rattle.lt_schema.specs.Catalogues.{IsNext, IsPlace, tables_with};
+ghost use Rattle.lt_schema.specs.Catalogues.{IsNext, IsPlace, is_at, tables_with};
 ghost use Rattle.lt_schema.specs.Tables.{view_registered};
 ghost use Rattle.lt_schema.specs.View.{view_key, view_version};
 
@@ -126,6 +126,16 @@ pub fn place_of(tables: &[Table], number: u32) -> usize
     at
 }
 
+/// Whether the table at a place has a number.
+fn is_at(tables: &[Table], at: usize, number: u32) -> bool
+    ensures { result ≡ is_at tables.now at number }
+{
+    match tables.get(at) {
+        None => false,
+        Some(table) => table.number() == number,
+    }
+}
+
 /// Puts a version behind those of its table, or a fresh table in its place. An `Err` changes nothing.
 pub fn put_version(tables: &mut Vec<Table>, version: SchemaVersion) -> Result<(), Memory>
     requires { IsNext tables.old.items (view_version version) }
@@ -133,7 +143,7 @@ pub fn put_version(tables: &mut Vec<Table>, version: SchemaVersion) -> Result<()
     ensures err { OnErr result (tables.new.items ≡ tables.old.items) }
 {
     let at = place_of(tables, version.number);
-    if at < tables.len() && tables[at].number() == version.number {
+    if is_at(tables, at, version.number) {
         let table = &mut tables[at];
         table.add(version)?;
     } else {
