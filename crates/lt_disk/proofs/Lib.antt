@@ -3,3 +3,5 @@ pub mod Histories
 pub mod Overwrites
 pub mod Images
 pub mod Crashes
+pub mod Written
+pub mod Moments

@@ -5,3 +5,4 @@ pub mod HistoryLaws
 pub mod Crash
 pub mod Memory
 pub mod Adapters
+pub mod Within

@@ -1,0 +1,5 @@
+pub mod SlotLaws
+pub mod Choosing
+pub mod Gates
+pub mod Tears
+pub mod Stages

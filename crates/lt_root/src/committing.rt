@@ -1,0 +1,60 @@
+//! The commit: by writes in an order of which a crash can leave only the old root or the new one. The slot that counts is never
+//! written. It makes at most eight calls of the disk.
+
+ghost use Rattle.std.specs.Prelude.{◌≡◌, ◌+◌, ◌-◌, ◌<◌, ◌≤◌, ◌^◌, ◌⊎◌, IfSome, OnOk, OnErr};
+ghost use Rattle.lt_model.specs.Disk.{CountsOne, HasCause, LeavesOnly, Rose};
+ghost use Rattle.lt_model.specs.Outside.{HasRoot, LeavesNow};
+ghost use Rattle.lt_model.specs.Store.{slot_place};
+ghost use Rattle.lt_root.specs.Roots.{next_root};
+ghost use Rattle.lt_root.specs.Steps.{HasCommitted};
+ghost use Rattle.lt_disk.specs.Within.{IsStable, IsWithin, ReadsWithin};
+
+use crate::slot::{OPEN, body};
+use crate::writing::{close_gate, place_of_gate, place_of_slot, put};
+use lt_disk::{Disk, DiskFault};
+use lt_model::Root;
+
+/// Makes the next root count, for the manifest at this place. What was written before is made stable first.
+pub fn commit<D: Disk>(
+    disk: &mut D,
+    root: &mut Root,
+    place: u64,
+    length: u64,
+) -> Result<(), DiskFault>
+    requires slot { root.old.slot < 2 }
+    requires generation { root.old.generation < 2 ^ 64 - 1 }
+    ensures ok { OnOk result (root.new ≡ next_root root.old place length) }
+    ensures err { OnErr result (root.new ≡ root.old) }
+
+    // Where a manifest may stand at this place, and each image has the root as the call begins: at each moment of it each has the old or the new one, the new one with
+    // all else as it read; after Ok each has the new one, and after a fault that was no write fault the old one.
+    ensures any_moment { IfSome (D.told disk.old) (λ seen. 1024 ≤ place → 0 < length → LeavesNow D.may_leave disk.old (HasRoot root.old)
+        → LeavesOnly D.moment D.left_since disk.old disk.new (λ image. HasRoot root.old image ⊎ HasCommitted (next_root root.old place length) seen image)) }
+    ensures acknowledged { IfSome (D.told disk.old) (λ seen. 1024 ≤ place → 0 < length → LeavesNow D.may_leave disk.old (HasRoot root.old)
+        → OnOk result (LeavesNow D.may_leave disk.new (HasRoot (next_root root.old place length)))) }
+    ensures unwritten { IfSome (D.told disk.old) (λ seen. 1024 ≤ place → 0 < length → LeavesNow D.may_leave disk.old (HasRoot root.old)
+        → OnErr result (Rose (D.write_faults disk.old) (D.write_faults disk.new) ⊎ LeavesNow D.may_leave disk.new (HasRoot root.old))) }
+
+    // Nothing but the other slot changes, in what reads and in each image, and after Ok a crash leaves what reads.
+    ensures others { ReadsWithin D.told (slot_place (1 - root.old.slot)) 512 disk.old disk.new }
+    ensures images { LeavesOnly D.moment D.left_since disk.old disk.new (IsWithin D.may_leave disk.old (slot_place (1 - root.old.slot)) 512) }
+    ensures stable { OnOk result (IsStable D.told D.may_leave disk.new) }
+
+    ensures cause { HasCause (D.faults disk.old) (D.faults disk.new) result }
+    ensures later { D.write_faults disk.old ≤ D.write_faults disk.new }
+    ensures kept { OnOk result (D.write_faults disk.new ≡ D.write_faults disk.old) }
+    ensures read { CountsOne (D.reads disk.old) (D.reads disk.new) }
+{
+    let next = Root {
+        generation: root.generation + 1,
+        place,
+        length,
+        slot: 1 - root.slot,
+    };
+    disk.sync()?;
+    close_gate(disk, next.slot)?;
+    put(disk, place_of_slot(next.slot), &body(&next))?;
+    put(disk, place_of_gate(next.slot), &[OPEN])?;
+    *root = next;
+    Ok(())
+}
