@@ -46,8 +46,9 @@ pub fn run<D: Disk, F: Feed, S: Source, K: Sink>(
     ensures memory { result ≡ 10 → IfSome (F.told feed.new) IsOneStream }
     ensures too_long { result ≡ 9 → IfSome (S.left script.old) (λ s. max_script < length s) }
 
-    // Nothing is read behind the script's first fault, and nothing is written behind the output's.
-    ensures script_stops { result ≡ 3 → FailsAt (S.left script.new) (S.failed_at script.old) (S.failed_at script.new) }
+    // Of objects that tell their bytes and had not failed before: either the script did not fail, or nothing was read behind its fault;
+    // and with status 4 nothing was written behind the output's.
+    ensures script_stops { ((result ≢ 3) × (S.faults script.new ≡ S.faults script.old)) ⊎ FailsAt (S.left script.new) (S.failed_at script.old) (S.failed_at script.new) }
     ensures out_stops { result ≡ 4 → FailsAt (K.held out.new) (K.failed_at out.old) (K.failed_at out.new) }
 
     // What failed shows: in the status, or where the last line was cut short.
@@ -58,7 +59,7 @@ pub fn run<D: Disk, F: Feed, S: Source, K: Sink>(
     ensures grows { FeedGrows (F.told feed.old) (F.told feed.new) }
     ensures idle { is_run (map (λ w. string_bytes w) words.now) ≡ false → (feed.new ≡ feed.old) × (script.new ≡ script.old) }
     ensures disk { disk.new ≡ disk.old }
-    ensures later { (F.faults feed.old ≤ F.faults feed.new) × (S.faults script.old ≤ S.faults script.new) × (K.faults out.old ≤ K.faults out.new) }
+    ensures later { (F.faults feed.old ≤ F.faults feed.new) × (F.calls feed.old ≤ F.calls feed.new) × (S.faults script.old ≤ S.faults script.new) × (K.faults out.old ≤ K.faults out.new) }
     ensures told { StaysTold (F.told feed.old) (F.told feed.new) × StaysTold (S.left script.old) (S.left script.new) × StaysTold (K.held out.old) (K.held out.new) }
 {
     let _ = disk;

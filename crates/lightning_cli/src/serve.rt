@@ -143,7 +143,7 @@ fn take_piece<F: Feed, S: Source, K: Sink>(
         → SameDisk old.counts now.counts → IsServing old mid count (taken server.old.session) server.old.replies.items server.old.line.items → IfOver result (Served old now) }
     ensures script_fault { IfOver result (λ status. status ≡ 3 → Rose (S.faults script.old) (S.faults script.new)) }
     ensures out_fault { IfOver result (λ status. status ≡ 4 → Rose (K.faults out.old) (K.faults out.new)) }
-    ensures script_stops { IfOver result (λ status. status ≡ 3 → FailsAt (S.left script.new) (S.failed_at script.old) (S.failed_at script.new)) }
+    ensures script_stops { IfOver result (λ status. ((status ≢ 3) × (S.faults script.new ≡ S.faults script.old) × (S.failed_at script.new ≡ S.failed_at script.old)) ⊎ FailsAt (S.left script.new) (S.failed_at script.old) (S.failed_at script.new)) }
     ensures out_stops { IfOver result (λ status. status ≡ 4 → FailsAt (K.held out.new) (K.failed_at out.old) (K.failed_at out.new)) }
     ensures too_long { IfOver result (λ status. status ≡ 9 → IfSome (S.left script.old) (λ s. 2 ^ 32 < count + length s)) }
     ensures script_kept { IfOver result (λ status. status ≢ 3 → status ≢ 4 → S.faults script.new ≡ S.faults script.old) }
@@ -183,7 +183,7 @@ pub fn serve<F: Feed, S: Source, K: Sink>(
         → SameDisk old.counts now.counts → HasTaken old.feed [] → Served old now result }
     ensures script_fault { result ≡ 3 → Rose (S.faults script.old) (S.faults script.new) }
     ensures out_fault { result ≡ 4 → Rose (K.faults out.old) (K.faults out.new) }
-    ensures script_stops { result ≡ 3 → FailsAt (S.left script.new) (S.failed_at script.old) (S.failed_at script.new) }
+    ensures script_stops { ((result ≢ 3) × (S.faults script.new ≡ S.faults script.old)) ⊎ FailsAt (S.left script.new) (S.failed_at script.old) (S.failed_at script.new) }
     ensures out_stops { result ≡ 4 → FailsAt (K.held out.new) (K.failed_at out.old) (K.failed_at out.new) }
     ensures too_long { result ≡ 9 → IfSome (S.left script.old) (λ s. max_script < length s) }
     ensures script_kept { result ≢ 3 → result ≢ 4 → S.faults script.new ≡ S.faults script.old }

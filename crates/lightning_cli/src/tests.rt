@@ -152,6 +152,7 @@ fn worked_runs(rt: HostRuntime) -> Result<(), Fail> {
         (run, &[], SCRIPT, 8, MISMATCH),
         (run, &[LOG, LOG], SCRIPT, 8, MISMATCH),
         (run, &[&[b"LTLOG1"]], SCRIPT, 8, MISMATCH),
+        // Lines that are skipped or bad, and a row through all operations.
         (
             run,
             &[LOG],

@@ -1,4 +1,4 @@
-use Rattle.std.proofs.Common.{sym, ap, ◌∙◌, arith, refl}
+use Rattle.std.proofs.Common.{sym, ap, ◌∙◌, arith, inl, inr, refl}
 use Rattle.lt_model.specs.Program.{Told}
 use Rattle.lightning_cli.specs.Sessions.{taken}
 use Rattle.lightning_cli.proofs.FeedLaws.{goes_itself, goes_then, told_on}
@@ -58,7 +58,10 @@ returns-in-Over-clause-served g c old now seen seen' disk has =
     c.in-Over.ensures.served old mid now (record { feed = f.1; script = x.1; written = w.1; counted = refl; out = refl; read = refl }) seen' disk (i.serving old mid seen (record { feed = f.1; script = x.1; written = w.1; counted = refl; out = refl; read = refl }) has)
 
 pub returns-in-Over-clause-script_stops : goal.returns-in-Over-clause-script_stops
-returns-in-Over-clause-script_stops g c e = fails_from _ _ _ _ c.loop.invariant.unstopped.1 (c.in-Over.ensures.script_stops e)
+returns-in-Over-clause-script_stops g c = elim c.in-Over.ensures.script_stops [
+  | inl kept ↦ inl (kept.0, kept.1 ∙ c.loop.invariant.unfailed.1)
+  | inr fails ↦ inr (fails_from _ _ _ _ c.loop.invariant.unstopped.1 fails)
+]
 
 pub returns-in-Over-clause-out_stops : goal.returns-in-Over-clause-out_stops
 returns-in-Over-clause-out_stops g c e = fails_from _ _ _ _ c.loop.invariant.unstopped.0 (c.in-Over.ensures.out_stops e)
