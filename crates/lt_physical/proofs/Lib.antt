@@ -1,0 +1,5 @@
+pub mod LeafLists
+pub mod Found
+pub mod Carriers
+pub mod FewVersions
+pub mod Numbers

@@ -1,0 +1,11 @@
+//! Values as leaves: the layouts of a table's columns, and a row's cells under one.
+#![tactic(auto)]
+
+mod cells;
+mod layouts;
+mod leaves;
+#[cfg(test)]
+mod tests;
+
+pub use cells::flatten;
+pub use layouts::{carrier_layout, version_layout};

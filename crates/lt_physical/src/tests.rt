@@ -1,0 +1,79 @@
+//! A struct's leaves, and its cells.
+
+use crate::{flatten, version_layout};
+use lt_core::{FieldKinds, Fields, Kind, List, Rank, Scalar, Settings, Text, Value};
+use lt_schema::{Column, SchemaVersion};
+use std::alloc::Global;
+use std::test::Fail;
+
+fn text(alloc: Global, name: &str) -> Result<Text, Fail> {
+    Ok(Text::from_slice(alloc, name.as_bytes())?)
+}
+
+/// A version with a struct of a number and a text in column 1, and an enum in column 2.
+fn version(alloc: Global) -> Result<SchemaVersion, Fail> {
+    let mut fields = FieldKinds::new(alloc);
+    fields.push((1, text(alloc, "x")?, Kind::Plain(Rank::Int64)))?;
+    fields.push((2, text(alloc, "y")?, Kind::Plain(Rank::Text)))?;
+    let mut columns = List::new(alloc);
+    columns.push(Column {
+        number: 1,
+        name: text(alloc, "p")?,
+        kind: Kind::Struct(fields),
+        fallback: None,
+    })?;
+    columns.push(Column {
+        number: 2,
+        name: text(alloc, "q")?,
+        kind: Kind::Enum(List::new(alloc)),
+        fallback: None,
+    })?;
+    Ok(SchemaVersion {
+        table: text(alloc, "t")?,
+        number: 1,
+        version: 1,
+        key: List::new(alloc),
+        columns,
+    })
+}
+
+/// A cell's kind by a letter, and its number.
+fn shown(cell: Option<&Scalar>) -> (char, i64) {
+    match cell {
+        None => ('-', 0),
+        Some(Scalar::Unset) => ('u', 0),
+        Some(Scalar::Null) => ('n', 0),
+        Some(Scalar::Bool(truth)) => ('b', i64::from(*truth)),
+        Some(Scalar::Int(number)) => ('i', *number),
+        Some(Scalar::Bytes(_)) => ('t', 0),
+    }
+}
+
+#[test]
+fn a_struct_is_its_leaves(rt: HostRuntime) -> Result<(), Fail> {
+    let alloc = rt.alloc();
+    let layout = version_layout(alloc, &version(alloc)?)?;
+    let ranks = [Rank::Bool, Rank::Int64, Rank::Text, Rank::Int32];
+    assert_eq!(rt; layout.len(), ranks.len());
+    for (leaf, rank) in layout.as_slice().iter().zip(ranks) {
+        assert_eq!(rt; leaf.rank, rank);
+    }
+    let mut fields = Fields::new(alloc);
+    fields.push((1, Value::Int(5)))?;
+    let mut set = Settings::new(alloc);
+    set.push((1, Value::Struct(fields)))?;
+    let cells = flatten(&layout, &set)?;
+    let wanted = [('b', 1), ('i', 5), ('n', 0), ('u', 0)];
+    for (place, want) in wanted.iter().enumerate() {
+        assert_eq!(rt; shown(cells.get(place)), *want, "cell {place}");
+    }
+    let mut set = Settings::new(alloc);
+    set.push((1, Value::Null))?;
+    set.push((2, Value::Int(3)))?;
+    let cells = flatten(&layout, &set)?;
+    let wanted = [('b', 0), ('n', 0), ('n', 0), ('i', 3)];
+    for (place, want) in wanted.iter().enumerate() {
+        assert_eq!(rt; shown(cells.get(place)), *want, "cell {place}");
+    }
+    Ok(())
+}
