@@ -1,0 +1,3 @@
+pub mod FirstVersions
+pub mod FaultParts
+pub mod WindowLaws

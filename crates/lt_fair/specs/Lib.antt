@@ -1,0 +1,4 @@
+pub mod View
+pub mod Messages
+pub mod Faults
+pub mod Windows

@@ -1,0 +1,17 @@
+//! What a check keeps of the records that were taken.
+
+use lt_core::{KeyBytes, List, Ts};
+
+/// Keys, each with the timestamp of its last change. Those of a check rise.
+pub type Window = List<(KeyBytes, Ts)>;
+
+/// What a check keeps.
+#[derive(Debug, Drop)]
+pub struct Point {
+    /// The last checkpoint, or where the stream begins.
+    pub checkpoint: Ts,
+    /// The greatest timestamp of a change, or 0.
+    pub greatest: Ts,
+    /// The keys with a change above the checkpoint.
+    pub window: Window,
+}

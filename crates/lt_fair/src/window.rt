@@ -1,0 +1,176 @@
+//! The keys with a change above the checkpoint, each with its last timestamp.
+//!
+//! They stand in a map, so that a look-up and a change cost a logarithm. A point that is handed in is a list, and stays one
+//! until a key is put: if its keys rise, it then goes into a map, once. Another list stays a list, which is gone over at
+//! each call; no check makes one.
+
+ghost use Rattle.std.specs.Prelude.{◌≡◌, ◌<◌, [], filter, length, nat_lt, IfOk, IfSome, IsTrue, OnErr, OnOk};
+ghost use Rattle.lt_model.specs.Key.{below};
+ghost use Rattle.lt_model.specs.Fair.{put_key, window_ts};
+ghost use Rattle.lt_fair.specs.View.{view_kept};
+ghost use Rattle.lt_fair.specs.Windows.{AllBelow, IsPutPlace, stands_at};
+
+use crate::point::Window;
+use lt_core::{KeyBytes, List, ListItem, Memory, Ts};
+use std::alloc::Global;
+use std::collections::BTreeMap;
+
+#[derive(Debug, Drop)]
+pub enum Kept {
+    Listed(Vec<(KeyBytes, Ts)>),
+    Mapped(BTreeMap<KeyBytes, Ts>),
+}
+
+impl Kept {
+    pub fn new(alloc: Global) -> Kept
+        ensures { view_kept result ≡ [] }
+    {
+        Kept::Mapped(BTreeMap::new(alloc))
+    }
+
+    /// The last timestamp of a key, or 0.
+    pub fn last_of(&self, key: &KeyBytes) -> Ts
+        ensures { result ≡ window_ts key.now (view_kept self.now) }
+    {
+        match self {
+            Kept::Listed(list) => last_in(list, key),
+            Kept::Mapped(map) => map.get(key).copied().unwrap_or(0),
+        }
+    }
+
+    /// Puts a key's timestamp in its place. An `Err` changes nothing.
+    pub fn put(&mut self, key: KeyBytes, ts: Ts) -> Result<(), Memory>
+        ensures ok { OnOk result (view_kept self.new ≡ put_key key ts (view_kept self.old)) }
+        ensures err { OnErr result (view_kept self.new ≡ view_kept self.old) }
+    {
+        match self {
+            Kept::Mapped(map) => put_mapped(map, key, ts),
+            Kept::Listed(list) => match mapped(list)? {
+                None => put_listed(list, key, ts),
+                Some(mut map) => {
+                    put_mapped(&mut map, key, ts)?;
+                    *self = Kept::Mapped(map);
+                    Ok(())
+                }
+            },
+        }
+    }
+
+    /// Keeps the keys whose last timestamp is above the checkpoint.
+    pub fn keep_above(&mut self, checkpoint: Ts)
+        ensures { view_kept self.new ≡ filter (λ w. nat_lt checkpoint w.1) (view_kept self.old) }
+    {
+        match self {
+            Kept::Listed(list) => list.retain(|(_, last)| *last > checkpoint),
+            Kept::Mapped(map) => map.retain(|_, last| *last > checkpoint),
+        }
+    }
+
+    /// The keys with their timestamps, as a list.
+    pub fn to_window(&self, alloc: Global) -> Result<Window, Memory>
+        ensures { IfOk result (λ window. window ≡ view_kept self.now) }
+    {
+        match self {
+            Kept::Listed(list) => ListItem::copy_items(alloc, list),
+            Kept::Mapped(map) => listed(alloc, map),
+        }
+    }
+}
+
+fn last_in(list: &[(KeyBytes, Ts)], key: &KeyBytes) -> Ts
+    ensures { result ≡ window_ts key.now list.now }
+{
+    for (other, last) in list {
+        if key.cmp(other).is_eq() {
+            return *last;
+        }
+    }
+    0
+}
+
+fn put_mapped(map: &mut BTreeMap<KeyBytes, Ts>, key: KeyBytes, ts: Ts) -> Result<(), Memory>
+    ensures ok { OnOk result (map.new.entries ≡ put_key key ts map.old.entries) }
+    ensures err { OnErr result (map.new.entries ≡ map.old.entries) }
+{
+    map.insert(key, ts)?;
+    Ok(())
+}
+
+/// Where a key stands, or is to stand: the place of the first key that is not below it.
+fn place_of(list: &[(KeyBytes, Ts)], key: &KeyBytes) -> usize
+    ensures { IsPutPlace key.now list.now result }
+{
+    let mut at = 0;
+    for (other, _) in list {
+        if !is_below(other, key) {
+            return at;
+        }
+        at += 1;
+    }
+    at
+}
+
+fn is_below(one: &KeyBytes, other: &KeyBytes) -> bool
+    ensures { result ≡ below one.now other.now }
+{
+    one.cmp(other).is_lt()
+}
+
+/// Whether the key stands at the place.
+fn stands_at(list: &[(KeyBytes, Ts)], at: usize, key: &KeyBytes) -> bool
+    ensures answer { result ≡ stands_at key.now list.now at }
+    ensures within { IsTrue result → at < length list.now }
+{
+    match list.get(at) {
+        None => false,
+        Some((other, _)) => other.cmp(key).is_eq(),
+    }
+}
+
+fn put_listed(list: &mut Vec<(KeyBytes, Ts)>, key: KeyBytes, ts: Ts) -> Result<(), Memory>
+    ensures ok { OnOk result (list.new.items ≡ put_key key ts list.old.items) }
+    ensures err { OnErr result (list.new.items ≡ list.old.items) }
+{
+    let at = place_of(list, &key);
+    if stands_at(list, at, &key) {
+        list[at].1 = ts;
+    } else {
+        list.insert(at, (key, ts))?;
+    }
+    Ok(())
+}
+
+/// The list as a map, if its keys rise.
+fn mapped(list: &Vec<(KeyBytes, Ts)>) -> Result<Option<BTreeMap<KeyBytes, Ts>>, Memory>
+    ensures { IfOk result (λ found. IfSome found (λ map. map.entries ≡ list.now.items)) }
+{
+    let mut map = BTreeMap::new(*list.allocator());
+    for (key, ts) in list {
+        if !comes_last(&map, key) {
+            return Ok(None);
+        }
+        map.insert(key.copy()?, *ts)?;
+    }
+    Ok(Some(map))
+}
+
+/// Whether a key is above those of the map.
+fn comes_last(map: &BTreeMap<KeyBytes, Ts>, key: &KeyBytes) -> bool
+    ensures { IsTrue result → AllBelow key.now map.now.entries }
+{
+    match map.last_key_value() {
+        None => true,
+        Some((last, _)) => is_below(last, key),
+    }
+}
+
+/// The map as a list.
+fn listed(alloc: Global, map: &BTreeMap<KeyBytes, Ts>) -> Result<Window, Memory>
+    ensures { IfOk result (λ window. window ≡ map.now.entries) }
+{
+    let mut window = List::new(alloc);
+    for (key, ts) in map {
+        window.push((key.copy()?, *ts))?;
+    }
+    Ok(window)
+}
