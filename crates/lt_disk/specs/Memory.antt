@@ -1,7 +1,7 @@
 -- What a disk in memory tells.
-use Rattle.std.specs.Prelude.{List, MatchResult, Result, false, length, true, ℕ, ◌∷◌, ◌≡◌, ◌⊎◌}
+use Rattle.std.specs.Prelude.{IsTrue, List, MatchResult, Result, false, length, true, ℕ, ◌∷◌, ◌≡◌, ◌⊎◌}
 use Rattle.lt_model.specs.Disk.{Only}
-use Rattle.lt_disk.specs.Plan.{Plan, counted, no_plan}
+use Rattle.lt_disk.specs.Plan.{Plan, counted, fails_next, no_plan}
 use Rattle.lt_disk.specs.History.{LeftSince, MayLeave}
 use Rattle.lt_disk.specs.declared.history.Event.{Event}
 use Rattle.lt_disk.specs.declared.history.Event.TheVariants.{Sync, Write}
@@ -61,11 +61,12 @@ pub record OnlyPlans (old new : MemDisk) : Type 0 where
   pub reads : disk_reads new ≡ disk_reads old
   pub lacks : disk_lacks new ≡ disk_lacks old
 
--- A write is noted as taken, or as refused. One that found no memory may go unnoted.
+-- A write is noted as taken, or as refused where it was to fail. One that found no memory goes unnoted, and counts as a lack.
 abbrev pub NotesWrite : {T E : Type 0} → MemDisk → MemDisk → ℕ → List ℕ → Result T E → Type 0
 NotesWrite old new place bs result = MatchResult result (λ _. disk_history new ≡ Write place bs true ∷ disk_history old)
-    (λ _. (disk_history new ≡ Write place bs false ∷ disk_history old) ⊎ ((disk_history new ≡ disk_history old) × (disk_lacks new ≡ counted (disk_lacks old))))
+    (λ _. ((disk_history new ≡ Write place bs false ∷ disk_history old) × IsTrue (fails_next (disk_plan old)) × (disk_lacks new ≡ disk_lacks old)) ⊎ ((disk_history new ≡ disk_history old) × (disk_lacks new ≡ counted (disk_lacks old))))
 
--- a sync is noted where it succeeds
+-- A sync is noted where it succeeds. One that was to fail lacks nothing.
 abbrev pub NotesSync : {T E : Type 0} → MemDisk → MemDisk → Result T E → Type 0
-NotesSync old new result = MatchResult result (λ _. disk_history new ≡ Sync ∷ disk_history old) (λ _. disk_history new ≡ disk_history old)
+NotesSync old new result = MatchResult result (λ _. disk_history new ≡ Sync ∷ disk_history old)
+    (λ _. (disk_history new ≡ disk_history old) × (IsTrue (fails_next (disk_plan old)) → disk_lacks new ≡ disk_lacks old))

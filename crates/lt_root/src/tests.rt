@@ -52,6 +52,25 @@ fn a_new_store_has_one_open_slot(rt: HostRuntime) -> Result<(), Fail> {
 }
 
 #[test]
+fn a_stopped_making_opens_the_gate_last(rt: HostRuntime) -> Result<(), Fail> {
+    let rows = [
+        (2, Pick::Old, Err(RootRefusal::NoStore)),
+        (3, Pick::Old, Err(RootRefusal::NoStore)),
+        (3, Pick::New, Ok(FIRST)),
+        (4, Pick::Old, Ok(FIRST)),
+    ];
+    for (calls, pick, want) in rows {
+        let mut disk = MemDisk::new(rt.alloc());
+        disk.stop_after(calls);
+        let made = format(&mut disk, FIRST.place, FIRST.length);
+        assert_eq!(rt; made.is_ok(), calls == 4);
+        let mut left = disk.crash(&[pick])?;
+        assert_eq!(rt; load(&mut left), want, "after {calls} calls");
+    }
+    Ok(())
+}
+
+#[test]
 fn the_open_slot_of_the_greater_generation_counts(rt: HostRuntime) -> Result<(), Fail> {
     let rows: [(&[(u64, &[u8])], Result<Root, RootRefusal>); 14] = [
         (&[], Ok(SECOND)),
