@@ -42,7 +42,7 @@ fn add_field_leaves(
 }
 
 /// The path, and one field more.
-fn longer_path(path: &Path, field: u16) -> Result<Path, Memory>
+pub fn longer_path(path: &Path, field: u16) -> Result<Path, Memory>
     ensures { IfOk result (λ longer. longer ≡ path.now ++ field ∷ []) }
 {
     let mut longer = path.copy()?;

@@ -6,6 +6,8 @@ mod layouts;
 mod leaves;
 #[cfg(test)]
 mod tests;
+mod values;
 
 pub use cells::flatten;
 pub use layouts::{carrier_layout, version_layout};
+pub use values::unflatten;

@@ -1,6 +1,6 @@
-//! A struct's leaves, and its cells.
+//! A struct's leaves, its cells, and back.
 
-use crate::{flatten, version_layout};
+use crate::{flatten, unflatten, version_layout};
 use lt_core::{FieldKinds, Fields, Kind, List, Rank, Scalar, Settings, Text, Value};
 use lt_schema::{Column, SchemaVersion};
 use std::alloc::Global;
@@ -67,6 +67,18 @@ fn a_struct_is_its_leaves(rt: HostRuntime) -> Result<(), Fail> {
     for (place, want) in wanted.iter().enumerate() {
         assert_eq!(rt; shown(cells.get(place)), *want, "cell {place}");
     }
+    let Some(Value::Struct(fields)) = unflatten(&layout, &cells, 1)? else {
+        return Err(Fail::new("no struct"));
+    };
+    assert_eq!(rt; fields.len(), 2);
+    assert!(rt; matches!(fields.get(0), Some((1, Value::Int(5)))));
+    assert!(rt; matches!(fields.get(1), Some((2, Value::Null))));
+    for column in [0, 2, 3] {
+        assert!(rt;
+            unflatten(&layout, &cells, column)?.is_none(),
+            "column {column}"
+        );
+    }
     let mut set = Settings::new(alloc);
     set.push((1, Value::Null))?;
     set.push((2, Value::Int(3)))?;
@@ -75,5 +87,7 @@ fn a_struct_is_its_leaves(rt: HostRuntime) -> Result<(), Fail> {
     for (place, want) in wanted.iter().enumerate() {
         assert_eq!(rt; shown(cells.get(place)), *want, "cell {place}");
     }
+    assert!(rt; matches!(unflatten(&layout, &cells, 1)?, Some(Value::Null)));
+    assert!(rt; matches!(unflatten(&layout, &cells, 2)?, Some(Value::Int(3))));
     Ok(())
 }
