@@ -1,5 +1,5 @@
 //! A row's cells under a layout. Making them takes time by the cells and their bytes, and for each leaf by the settings that stand before
-//! its column's: at most 256.
+//! its column's, at most 256, and by the fields that stand before those on its path.
 
 ghost use Rattle.std.specs.Prelude.{◌≡◌, option_map, IfOk};
 ghost use Rattle.std.specs.Option.{option_map_or};
@@ -12,10 +12,9 @@ use lt_core::{Cells, Layout, Leaf, List, Memory, Path, Scalar, Settings, Value};
 use std::alloc::Global;
 
 /// The cells of what is set. A column that is not set has unset cells.
-pub fn flatten(layout: &Layout, set: &Settings) -> Result<Cells, Memory>
+pub fn flatten(alloc: Global, layout: &Layout, set: &Settings) -> Result<Cells, Memory>
     ensures { IfOk result (λ cells. view_cells cells ≡ layouts.flatten (view_layout layout.now) (view_settings set.now)) }
 {
-    let alloc = layout.allocator();
     let mut cells = List::new(alloc);
     for leaf in layout.as_slice() {
         cells.push(cell_in(alloc, leaf, set)?)?;

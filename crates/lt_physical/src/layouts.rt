@@ -30,8 +30,8 @@ pub fn version_layout(alloc: Global, version: &SchemaVersion) -> Result<Layout, 
     Ok(layout)
 }
 
-/// The layout of a table's live columns in their carriers; an unknown table has none. It takes time by the columns of all versions, and
-/// for each live column by its versions.
+/// The layout of a table's live columns in their carriers; an unknown table has none. It takes time for each column
+/// by the columns of all versions.
 pub fn carrier_layout(alloc: Global, cat: &Catalogue, number: u32) -> Result<Layout, Memory>
     ensures { IfOk result (λ layout. view_layout layout ≡ schema.carriers cat.now number) }
 {

@@ -1,5 +1,5 @@
-//! A column's value from a row's cells. Taking it takes time by the leaves of the layout, and for each struct in the column by the leaves
-//! of the column. The recursion goes down the structs, which nest at most 4 deep.
+//! A column's value from a row's cells. Taking it takes time by the leaves of the layout, and for each leaf of the column by the column's
+//! leaves. The recursion goes down the structs, which nest at most 4 deep.
 
 ghost use Rattle.std.specs.Prelude.{◌≡◌, ◌==◌, None, if◌then◌else◌, IfOk, option_map};
 ghost use Rattle.lt_model.specs.Layout as layouts;
@@ -25,10 +25,14 @@ pub struct Placed<'a> {
 
 /// The value that a row's cells give a column; none exactly where it is unset or absent. The cells are to be lawful under the layout, as
 /// those that `flatten` makes: a text's bytes that are no UTF-8 are answered as want of memory.
-pub fn unflatten(layout: &Layout, cells: &Cells, column: u16) -> Result<Option<Value>, Memory>
+pub fn unflatten(
+    alloc: Global,
+    layout: &Layout,
+    cells: &Cells,
+    column: u16,
+) -> Result<Option<Value>, Memory>
     ensures { IfOk result (λ value. option_map view_value value ≡ layouts.unflatten (view_layout layout.now) (view_cells cells.now) column) }
 {
-    let alloc = layout.allocator();
     let placed = placed_in(alloc, layout, cells, column)?;
     if !sets(&placed, column) {
         return Ok(None);

@@ -8,6 +8,7 @@ ghost use Rattle.lt_version.specs.View.{view_version};
 
 use lt_core::{Cells, KeyBytes, List, Memory, Scalar, Ts};
 use lt_model::Op;
+use std::alloc::Global;
 
 /// A change of a row: its key's bytes, its timestamp, what it does, and a cell for each leaf of a layout.
 #[derive(Debug, Drop)]
@@ -33,9 +34,9 @@ impl RowVersion {
 }
 
 /// One version that does what the older and then the newer one do, with the newer one's timestamp. An insert or a delete stands alone;
-/// an update lays its set cells over an insert or an update, and leaves a delete a delete (docs/definitions.md, "Row versions").
+/// an update lays its set cells over an insert or an update, and leaves a delete a delete (docs/definitions.md, "Lists of row versions").
 #[tactic(auto, unfolding(lt_model::specs::Version::compose))]
-pub fn compose(older: &RowVersion, newer: &RowVersion) -> Result<RowVersion, Memory>
+pub fn compose(alloc: Global, older: &RowVersion, newer: &RowVersion) -> Result<RowVersion, Memory>
     requires key { older.now.key ≡ newer.now.key }
     requires cells { length older.now.cells ≡ length newer.now.cells }
     requires later { older.now.ts < newer.now.ts }
@@ -46,7 +47,7 @@ pub fn compose(older: &RowVersion, newer: &RowVersion) -> Result<RowVersion, Mem
         Op::Update => {
             let cells = match older.op {
                 Op::Delete => older.cells.copy()?,
-                Op::Insert | Op::Update => overlaid(&older.cells, &newer.cells)?,
+                Op::Insert | Op::Update => overlaid(alloc, &older.cells, &newer.cells)?,
             };
             Ok(RowVersion {
                 key: newer.key.copy()?,
@@ -59,11 +60,11 @@ pub fn compose(older: &RowVersion, newer: &RowVersion) -> Result<RowVersion, Mem
 }
 
 /// The newer cells where they are set, and the older ones elsewhere.
-fn overlaid(older: &Cells, newer: &Cells) -> Result<Cells, Memory>
+fn overlaid(alloc: Global, older: &Cells, newer: &Cells) -> Result<Cells, Memory>
     requires { length older.now ≡ length newer.now }
     ensures { IfOk result (λ cells. view_cells cells ≡ version.overlay (view_cells older.now) (view_cells newer.now)) }
 {
-    let mut cells = List::new(newer.allocator());
+    let mut cells = List::new(alloc);
     for now in newer.as_slice() {
         let was = &older.as_slice()[cells.len()];
         cells.push(over(was, now).copy()?)?;

@@ -1,4 +1,4 @@
-//! Two versions as one, and a walk over a list.
+//! Two versions as one.
 
 ghost use Rattle.std.specs.Prelude.{◌≡◌, ◌∷◌, [], length, IfOk};
 
@@ -84,7 +84,7 @@ fn two_versions_are_one(rt: HostRuntime) -> Result<(), Fail> {
     for (row, (older, newer, both)) in rows.into_iter().enumerate() {
         let was = version(rt, 3, older.0, older.1, older.2)?;
         let now = version(rt, 5, newer.0, newer.1, newer.2)?;
-        let got = compose(&was, &now)?;
+        let got = compose(rt.alloc(), &was, &now)?;
         assert!(rt; got.ts == 5 && got.op == both.0, "row {row}");
         assert!(rt;
             number(got.cells.get(0)) == both.1 && number(got.cells.get(1)) == both.2,

@@ -1,0 +1,6 @@
+pub mod Stamps
+pub mod Groups
+pub mod Deltas
+pub mod Walks
+pub mod Iters
+pub mod Tested
