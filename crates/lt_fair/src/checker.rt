@@ -56,6 +56,23 @@ impl Checker {
         }
     }
 
+    /// Goes on from a point, whichever it is.
+    pub fn go_on_at(&mut self, point: Point)
+        ensures header { header_of self.new ≡ header_of self.old }
+        ensures point { point_in self.new ≡ view_point point }
+    {
+        self.checkpoint = point.checkpoint;
+        self.greatest = point.greatest;
+        self.window = Kept::Listed(point.window.into_vec());
+    }
+
+    /// The last checkpoint, or where the stream begins.
+    pub fn checkpoint(&self) -> Ts
+        ensures { result ≡ (point_in self.now).checkpoint }
+    {
+        self.checkpoint
+    }
+
     /// What `take` would answer.
     pub fn test(&self, cat: &Catalogue, item: &LogRecord) -> Result<(), TakeRefusal>
         ensures by_point { Answers (breaks_at (header_of self.now) cat.now false (point_in self.now) (view_item item.now)) result }

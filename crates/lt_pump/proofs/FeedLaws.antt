@@ -1,0 +1,49 @@
+-- What calls leave of a feed, one after another, and what two told contents say together.
+use Rattle.std.proofs.Common.{◌≡◌, ℕ, true, false, refl, arith}
+use Rattle.std.specs.Prelude.{IfSome, None, Option, Result, Some}
+use Rattle.lt_model.specs.Fair.{Feed, Grows}
+use Rattle.lt_model.specs.Outside.{FeedCalled, FeedGrows, StaysTold}
+use Rattle.lt_laws.proofs.FrontLaws.{grows_itself, grows_then}
+use Rattle.lt_pump.specs.Feeds.{FeedCounts, FeedGoes}
+
+-- what two contents say together, one of which grew to the other
+pub told_step : (P Q R : Feed → Type 0) (o p : Option Feed) → StaysTold o p → FeedGrows o p → IfSome o P → IfSome p Q → ((f g : Feed) → Grows f g → P f → Q g → R g) → IfSome p R
+told_step P Q R o None s h a b k = tt
+told_step P Q R None (Some g) s h a b k = absurd (let e : false ≡ true = s.1 refl in cc)
+told_step P Q R (Some f) (Some g) s h a b k = k f g h a b
+
+pub told_map : (P Q : Feed → Type 0) (o : Option Feed) → IfSome o P → ((f : Feed) → P f → Q f) → IfSome o Q
+told_map P Q None a k = tt
+told_map P Q (Some f) a k = k f a
+
+pub told_both : (P Q R : Feed → Type 0) (o : Option Feed) → IfSome o P → IfSome o Q → ((f : Feed) → P f → Q f → R f) → IfSome o R
+told_both P Q R None a b k = tt
+told_both P Q R (Some f) a b k = k f a b
+
+pub told_all : (P : Feed → Type 0) (o : Option Feed) → ((f : Feed) → P f) → IfSome o P
+told_all P None k = tt
+told_all P (Some f) k = k f
+
+pub told_grows_itself : (o : Option Feed) → FeedGrows o o
+told_grows_itself None = tt
+told_grows_itself (Some f) = grows_itself f
+
+told_grows_then : (o p q : Option Feed) → StaysTold o p → FeedGrows o p → FeedGrows p q → FeedGrows o q
+told_grows_then None p q s h k = tt
+told_grows_then (Some f) None q s h k = absurd (let e : false ≡ true = s.0 refl in cc)
+told_grows_then (Some f) (Some g) None s h k = tt
+told_grows_then (Some f) (Some g) (Some e) s h k = grows_then f g e h k
+
+pub goes_itself : (told : Option Feed) (known : ℕ) (counts : FeedCounts) → FeedGoes told told known known counts counts
+goes_itself told known counts = record { grows = told_grows_itself told; stays = (λ h. h, λ h. h); more = omega arith; later = (omega arith, omega arith) }
+
+pub goes_then : (o p q : Option Feed) (a b c : ℕ) (x y z : FeedCounts) → FeedGoes o p a b x y → FeedGoes p q b c y z → FeedGoes o q a c x z
+goes_then o p q a b c x y z h k = record {
+  grows = told_grows_then o p q h.stays h.grows k.grows;
+  stays = (λ s. k.stays.0 (h.stays.0 s), λ s. h.stays.1 (k.stays.1 s));
+  more = omega (arith, h.more, k.more);
+  later = (omega (arith, h.later.0, k.later.0), omega (arith, h.later.1, k.later.1));
+}
+
+pub goes_called : {T E : Type 0} (told told' : Option Feed) (known known' faults faults' calls calls' : ℕ) (r : Result T E) → FeedCalled told told' known known' faults faults' calls calls' r → FeedGoes told told' known known' (faults, calls) (faults', calls')
+goes_called told told' known known' faults faults' calls calls' r h = record { grows = h.grows; stays = h.stays; more = h.more; later = (h.cause.later, h.no_fewer) }

@@ -1,0 +1,14 @@
+pub mod FeedLaws
+pub mod ReadLaws
+pub mod PassLaws
+pub mod GivenLaws
+pub mod BehindLaws
+pub mod SubLaws
+pub mod OrderLaws
+pub mod ChangeLaws
+pub mod Results
+pub mod StepLaws
+pub mod PumpLaws
+pub mod HeaderLaws
+pub mod AttachLaws
+pub mod SlotLaws

@@ -1,0 +1,31 @@
+//! The pump: it takes the fair records of a feed's streams, and hands each change to the subscription of its key.
+//!
+//! A stream stands behind the records that were taken of it. What is handed over is behind a trait, so that who keeps the
+//! changes is the caller's choice.
+#![tactic(auto)]
+
+mod ahead;
+mod attach;
+mod deliver;
+mod owners;
+mod position;
+mod pump;
+mod reading;
+mod refusal;
+mod stop;
+mod subscription;
+
+pub use deliver::Deliver;
+pub use lt_core::{KeyBytes, Memory, Range, Ts};
+pub use lt_fair::Unfair;
+pub use lt_io::Feed;
+pub use lt_model::BadFrame;
+pub use lt_records::ChangeRecord;
+pub use lt_schema::Catalogue;
+pub use pump::Pump;
+pub use refusal::{AttachRefusal, PumpFault};
+pub use stop::{Pumped, Stop};
+pub use subscription::{Lows, Subscription, Subscriptions};
+
+#[cfg(test)]
+mod tests;
