@@ -5,7 +5,7 @@ use Rattle.std.proofs.Math.Seq.{take-add}
 use Rattle.std.specs.Prelude.{min, IfSome, None, Option, Some, ◌↔◌}
 use Rattle.lt_model.specs.Fair.{Feed, Grows, stream_bytes}
 use Rattle.lt_model.specs.Log.{header_item, spelled}
-use Rattle.lt_model.specs.OneTable.{IsOneStream, only_header}
+use Rattle.lt_model.specs.OneStream.{IsOneStream, only_header}
 use Rattle.lt_model.specs.Outside.{FeedGrows, FeedReads, StaysTold}
 use Rattle.lightning_cli.proofs.PumpLaws.{ahead_grows}
 use Rattle.lightning_cli.specs.Pumps.{IsAhead, Matches}

@@ -6,7 +6,8 @@ use Rattle.lt_model.specs.Fair.{Feed, Grows}
 use Rattle.lt_model.specs.Reply.{text_line}
 use Rattle.lt_model.specs.Run.{HasBegun, StartFault, start_feed, start_mismatch, start_status, start_text, usage_text}
 use Rattle.lt_model.specs.Program.{IsFront, Told, cut_at_once, stops, stops_cut}
-use Rattle.lt_model.specs.OneTable.{Did, HasTaken, IsOneStream, NotBegun, is_run, not_begun, ran, usage, usage_cut}
+use Rattle.lt_model.specs.Schema.{Catalogue}
+use Rattle.lt_model.specs.OneStream.{Did, HasTaken, IsOneStream, NotBegun, is_run, not_begun, ran, usage, usage_cut}
 use Rattle.lt_model.specs.Outside.{FeedGrows, StaysTold}
 use Rattle.lightning_cli.specs.Serving.{Served}
 use Rattle.lightning_cli.proofs.TakeLaws.{taken_grows}
@@ -73,15 +74,15 @@ lacked_did words old new asked script written = record {
 abbrev pub begun : Told → Feed → ℕ → Told
 begun old f calls = record { feed = f; script = old.script; written = old.written; counts = record old.counts { calls = calls } }
 
-pub none_taken : (f : Feed) → IsOneStream f → HasTaken f []
-none_taken f one = record { stream = one; rest = _; takes = refl }
+pub none_taken : (f : Feed) (cat : Catalogue) → IsOneStream f → HasTaken f cat []
+none_taken f cat one = record { stream = one; rest = _; takes = refl }
 
 -- one stream stays one
 pub one_stays : (o p : Option Feed) → StaysTold o p → FeedGrows o p → IfSome o IsOneStream → IfSome p IsOneStream
 one_stays None None s h a = tt
 one_stays None (Some g) s h a = absurd (let e : false ≡ true = s.1 refl in cc)
 one_stays (Some f) None s h a = tt
-one_stays (Some f) (Some g) s h a = (taken_grows f g [] h (none_taken f a)).stream
+one_stays (Some f) (Some g) s h a = (taken_grows f g [] [] h (none_taken f [] a)).stream
 
 pub ran_did : (words : List (List ℕ)) (old new : Told) (f : Feed) (calls : ℕ) {status : ℕ} → is_run words ≡ true → Grows old.feed f → old.counts.calls ≤ calls → IsOneStream f → Served (begun old f calls) new status
     → Did words old new status

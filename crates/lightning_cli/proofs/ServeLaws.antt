@@ -3,15 +3,13 @@ use Rattle.std.proofs.lemmas.List.{length-append, take_at}
 use Rattle.lt_laws.proofs.FrontLaws.{grows_itself}
 use Rattle.std.proofs.Common.{◌≡◌, ℕ, ◌+◌, ◌<◌, ◌≤◌, ◌^◌, List, [], ◌∷◌, ◌++◌, length, take, refl, sym, ap, ◌∙◌, subst, arith, append_assoc, append-nil, inl}
 use Rattle.lt_model.specs.Fair.{Feed, Grows}
-use Rattle.lt_model.specs.Log.{Item}
 use Rattle.lt_model.specs.Script.{script_lines}
 use Rattle.lt_model.specs.Disk.{Rose}
 use Rattle.lt_model.specs.Run.{AreLater, Counts, IsOver, Moment, Runs, counts_after, lines_ended, max_script, script_fault_text, too_long_text}
 use Rattle.lt_model.specs.Program.{IsCut, IsFront, Told, all_answered, ended_early, in_last_line, in_replies, in_script_fault, in_too_long, script_failed, script_too_long}
-use Rattle.lt_model.specs.OneTable.{HasTaken, only_header, only_rules, only_session, session_after}
-use Rattle.lt_model.specs.Machine.{behind_header}
-use Rattle.lt_laws.proofs.TakenLaws.{moved_none}
-use Rattle.lightning_cli.specs.Sessions.{FeedCounts, feed_counts}
+use Rattle.lt_model.specs.OneStream.{only_rules, only_session}
+use Rattle.lightning_cli.specs.Sessions.{Belongs, FeedCounts, feed_counts, state_of}
+use Rattle.lightning_cli.specs.declared.session.Session.{Session}
 use Rattle.lightning_cli.specs.Serving.{HasRun, HasRunSome, IsServing, SameDisk, Served, Stands, open_line, with_feed}
 use Rattle.lightning_cli.proofs.PieceLaws.{all_lines}
 
@@ -46,7 +44,7 @@ later_counts n0 m k feed out script same = record {
   clock = omega (arith, same.clock);
 }
 
-pub run_over : {f0 : Feed} {n0 : Counts} {lines : List (List ℕ)} {written : List ℕ} {f : Feed} {k : FeedCounts} {items : List Item} {replies : List ℕ} (h : HasRun f0 n0 lines written f k items replies) (status : ℕ) (g : Feed) (m : Counts)
+pub run_over : {f0 : Feed} {n0 : Counts} {lines : List (List ℕ)} {written : List ℕ} {f : Feed} {k : FeedCounts} {session : Session} {replies : List ℕ} (h : HasRun f0 n0 lines written f k session replies) (status : ℕ) (g : Feed) (m : Counts)
     → Grows f g → k ≡ feed_counts m → n0.out ≤ m.out → n0.script ≤ m.script → SameDisk n0 m → IsOver f0 n0 h.moments status g m
 run_over {f0} {n0} {lines} {written} {f} {k} h status g m grows feed out script same = record {
   grows = subst (λ x. Grows x g) (sym h.feed) grows;
@@ -71,9 +69,9 @@ some_served old now bytes written f k status h short cut same took wrote feed ou
 }
 
 -- all lines were answered, the last one too, and all replies were written
-pub all_served : (old now : Told) (bytes written : List ℕ) {items : List Item} {replies : List ℕ} → HasRun old.feed old.counts (lines_ended bytes ++ open_line bytes ∷ []) written now.feed (feed_counts now.counts) items replies
+pub all_served : (old now : Told) (bytes written : List ℕ) {session : Session} {replies : List ℕ} → HasRun old.feed old.counts (lines_ended bytes ++ open_line bytes ∷ []) written now.feed (feed_counts now.counts) session replies
     → old.script ≡ bytes → now.script ≡ [] → length bytes ≤ 2 ^ 32 → now.written ≡ old.written ++ (written ++ replies) → old.counts.out ≤ now.counts.out → old.counts.script ≤ now.counts.script → SameDisk old.counts now.counts → Served old now 0
-all_served old now bytes written {items} {replies} h whole at_end short wrote out script disk = record {
+all_served old now bytes written {session} {replies} h whole at_end short wrote out script disk = record {
   trace = record { taken = bytes; written = written ++ replies; moments = h.moments };
   took = whole ∙ sym (append-nil bytes) ∙ ap (λ x. bytes ++ x) (sym at_end);
   wrote = wrote;
@@ -83,9 +81,9 @@ all_served old now bytes written {items} {replies} h whole at_end short wrote ou
 }
 
 -- the same where a failing sink took a front of the last replies
-pub all_cut : (old now : Told) (bytes written front : List ℕ) {items : List Item} {replies : List ℕ} → HasRun old.feed old.counts (lines_ended bytes ++ open_line bytes ∷ []) written now.feed (feed_counts now.counts) items replies
+pub all_cut : (old now : Told) (bytes written front : List ℕ) {session : Session} {replies : List ℕ} → HasRun old.feed old.counts (lines_ended bytes ++ open_line bytes ∷ []) written now.feed (feed_counts now.counts) session replies
     → IsFront front replies → old.script ≡ bytes → now.script ≡ [] → length bytes ≤ 2 ^ 32 → now.written ≡ old.written ++ (written ++ front) → old.counts.out ≤ now.counts.out → old.counts.script ≤ now.counts.script → SameDisk old.counts now.counts → Served old now 4
-all_cut old now bytes written front {items} {replies} h begins whole at_end short wrote out script disk = record {
+all_cut old now bytes written front {session} {replies} h begins whole at_end short wrote out script disk = record {
   trace = record { taken = bytes; written = written ++ front; moments = h.moments };
   took = whole ∙ sym (append-nil bytes) ∙ ap (λ x. bytes ++ x) (sym at_end);
   wrote = wrote;
@@ -96,7 +94,7 @@ all_cut old now bytes written front {items} {replies} h begins whole at_end shor
 }
 
 -- the script failed: the lines ended in what was taken were answered
-pub fault_served : (old now : Told) (bytes written : List ℕ) {items : List Item} → HasRun old.feed old.counts (lines_ended bytes) written now.feed (feed_counts now.counts) items []
+pub fault_served : (old now : Told) (bytes written : List ℕ) {session : Session} → HasRun old.feed old.counts (lines_ended bytes) written now.feed (feed_counts now.counts) session []
     → Rose old.counts.script now.counts.script → length bytes ≤ max_script → old.script ≡ bytes ++ now.script → now.written ≡ old.written ++ (written ++ script_fault_text) → old.counts.out ≤ now.counts.out → old.counts.script ≤ now.counts.script → SameDisk old.counts now.counts → Served old now 3
 fault_served old now bytes written h rose short took wrote out script disk = record {
   trace = record { taken = bytes; written = written ++ script_fault_text; moments = h.moments };
@@ -106,7 +104,7 @@ fault_served old now bytes written h rose short took wrote out script disk = rec
   over = run_over h 3 now.feed now.counts (grows_itself now.feed) refl out script disk;
 }
 
-pub fault_cut : (old now : Told) (bytes written front : List ℕ) {items : List Item} → HasRun old.feed old.counts (lines_ended bytes) written now.feed (feed_counts now.counts) items []
+pub fault_cut : (old now : Told) (bytes written front : List ℕ) {session : Session} → HasRun old.feed old.counts (lines_ended bytes) written now.feed (feed_counts now.counts) session []
     → IsFront front script_fault_text → Rose old.counts.script now.counts.script → length bytes ≤ max_script → old.script ≡ bytes ++ now.script → now.written ≡ old.written ++ (written ++ front) → old.counts.out ≤ now.counts.out → old.counts.script ≤ now.counts.script → SameDisk old.counts now.counts → Served old now 4
 fault_cut old now bytes written front h begins rose short took wrote out script disk = record {
   trace = record { taken = bytes; written = written ++ front; moments = h.moments };
@@ -123,7 +121,7 @@ first_bytes : (script bytes rest : List ℕ) → length bytes ≡ max_script →
 first_bytes script bytes rest full e = ap (take max_script) e ∙ take_at bytes rest max_script full
 
 -- the script is too long: the lines ended within the longest were answered
-pub long_served : (old now : Told) (bytes more written : List ℕ) {items : List Item} → HasRun old.feed old.counts (lines_ended bytes) written now.feed (feed_counts now.counts) items []
+pub long_served : (old now : Told) (bytes more written : List ℕ) {session : Session} → HasRun old.feed old.counts (lines_ended bytes) written now.feed (feed_counts now.counts) session []
     → length bytes ≡ max_script → 0 < length more → old.script ≡ (bytes ++ more) ++ now.script → now.written ≡ old.written ++ (written ++ too_long_text) → old.counts.out ≤ now.counts.out → old.counts.script ≤ now.counts.script → SameDisk old.counts now.counts → Served old now 9
 long_served old now bytes more written h full over took wrote out script disk =
     let e : old.script ≡ bytes ++ (more ++ now.script) = took ∙ append_assoc bytes more now.script in
@@ -136,7 +134,7 @@ long_served old now bytes more written h full over took wrote out script disk =
       over = run_over h 9 now.feed now.counts (grows_itself now.feed) refl out script disk;
     }
 
-pub long_cut : (old now : Told) (bytes more written front : List ℕ) {items : List Item} → HasRun old.feed old.counts (lines_ended bytes) written now.feed (feed_counts now.counts) items []
+pub long_cut : (old now : Told) (bytes more written front : List ℕ) {session : Session} → HasRun old.feed old.counts (lines_ended bytes) written now.feed (feed_counts now.counts) session []
     → IsFront front too_long_text → length bytes ≡ max_script → 0 < length more → old.script ≡ (bytes ++ more) ++ now.script → now.written ≡ old.written ++ (written ++ front) → old.counts.out ≤ now.counts.out → old.counts.script ≤ now.counts.script → SameDisk old.counts now.counts → Served old now 4
 long_cut old now bytes more written front h begins full over took wrote out script disk =
     let e : old.script ≡ bytes ++ (more ++ now.script) = took ∙ append_assoc bytes more now.script in
@@ -167,8 +165,8 @@ some_more old mid now bytes piece more written {status} f k h short cut took par
     cut same (took ∙ ap (λ x. bytes ++ x) part ∙ sym (append_assoc bytes (piece ++ more) now.script)) wrote feed out script disk
 
 -- some first replies were written, and the others are kept
-pub flushed_some : {f0 : Feed} {n0 : Counts} {bytes written : List ℕ} {f : Feed} {k : FeedCounts} {items : List Item} {replies kept : List ℕ} (first now : List ℕ) → replies ≡ first ++ now
-    → Stands f0 n0 bytes written f k items replies kept → Stands f0 n0 bytes (written ++ first) f k items now kept
+pub flushed_some : {f0 : Feed} {n0 : Counts} {bytes written : List ℕ} {f : Feed} {k : FeedCounts} {session : Session} {replies kept : List ℕ} (first now : List ℕ) → replies ≡ first ++ now
+    → Stands f0 n0 bytes written f k session replies kept → Stands f0 n0 bytes (written ++ first) f k session now kept
 flushed_some {f0} {n0} {bytes} {written} first now e s = record {
   run = record {
     moments = s.run.moments;
@@ -183,20 +181,16 @@ flushed_some {f0} {n0} {bytes} {written} first now e s = record {
 }
 
 -- replies that were written are no longer kept
-pub flushed : {f0 : Feed} {n0 : Counts} {bytes written : List ℕ} {f : Feed} {k : FeedCounts} {items : List Item} {replies kept : List ℕ} (now : List ℕ) → now ≡ [] → Stands f0 n0 bytes written f k items replies kept → Stands f0 n0 bytes (written ++ replies) f k items now kept
-flushed {f0} {n0} {bytes} {written} {f} {k} {items} {replies} {kept} now empty s = flushed_some replies now (sym (append-nil replies) ∙ ap (λ r. replies ++ r) (sym empty)) s
+pub flushed : {f0 : Feed} {n0 : Counts} {bytes written : List ℕ} {f : Feed} {k : FeedCounts} {session : Session} {replies kept : List ℕ} (now : List ℕ) → now ≡ [] → Stands f0 n0 bytes written f k session replies kept → Stands f0 n0 bytes (written ++ replies) f k session now kept
+flushed {f0} {n0} {bytes} {written} {f} {k} {session} {replies} {kept} now empty s = flushed_some replies now (sym (append-nil replies) ∙ ap (λ r. replies ++ r) (sym empty)) s
 
 pub regroup : (a b c d : List ℕ) → a ++ ((b ++ c) ++ d) ≡ ((a ++ b) ++ c) ++ d
 regroup a b c d = sym (append_assoc a (b ++ c) d) ∙ ap (λ x. x ++ d) (sym (append_assoc a b c))
 
--- a session that took nothing
-pub session_nothing : only_session ≡ session_after []
-session_nothing = λ i. record only_session { streams = sym (moved_none (behind_header only_header)) i ∷ [] }
-
 -- a run that begins
-pub begins : (old now : Told) → now.feed ≡ old.feed → now.script ≡ old.script → now.written ≡ old.written → feed_counts now.counts ≡ feed_counts old.counts → now.counts.out ≡ old.counts.out → now.counts.script ≡ old.counts.script → HasTaken old.feed []
-    → IsServing old now 0 [] [] []
-begins old now feed script written faults out script_faults has = record {
+pub begins : (old now : Told) (session : Session) → state_of session ≡ only_session → now.feed ≡ old.feed → now.script ≡ old.script → now.written ≡ old.written → feed_counts now.counts ≡ feed_counts old.counts → now.counts.out ≡ old.counts.out → now.counts.script ≡ old.counts.script → Belongs old.feed session
+    → IsServing old now 0 session [] []
+begins old now session fresh feed script written faults out script_faults has = record {
   bytes = [];
   written = [];
   number = refl;
@@ -204,12 +198,12 @@ begins old now feed script written faults out script_faults has = record {
   wrote = written ∙ sym (append-nil old.written);
   out = out;
   script = script_faults;
-  stands = subst (λ f. Stands old.feed old.counts [] [] f (feed_counts now.counts) [] [] []) (sym feed) (subst (λ k. Stands old.feed old.counts [] [] old.feed k [] [] []) (sym faults) (record {
-    run = record { moments = []; runs = tt; feed = refl; counts = refl; state = session_nothing; has = has; text = refl };
+  stands = subst (λ f. Stands old.feed old.counts [] [] f (feed_counts now.counts) session [] []) (sym feed) (subst (λ k. Stands old.feed old.counts [] [] old.feed k session [] []) (sym faults) (record {
+    run = record { moments = []; runs = tt; feed = refl; counts = refl; state = sym fresh; has = has; text = refl };
     line = refl;
   }));
 }
 
-pub serving_to : {old now : Told} {count : ℕ} {items more : List Item} {replies later kept line : List ℕ} → items ≡ more → replies ≡ later → kept ≡ line → IsServing old now count items replies kept → IsServing old now count more later line
-serving_to {old} {now} {count} {items} {more} {replies} {later} {kept} {line} e f h s =
-    subst (λ x. IsServing old now count x later line) e (subst (λ x. IsServing old now count items x line) f (subst (λ x. IsServing old now count items replies x) h s))
+pub serving_to : {old now : Told} {count : ℕ} {session more : Session} {replies later kept line : List ℕ} → session ≡ more → replies ≡ later → kept ≡ line → IsServing old now count session replies kept → IsServing old now count more later line
+serving_to {old} {now} {count} {session} {more} {replies} {later} {kept} {line} e f h s =
+    subst (λ x. IsServing old now count x later line) e (subst (λ x. IsServing old now count session x line) f (subst (λ x. IsServing old now count session replies x) h s))

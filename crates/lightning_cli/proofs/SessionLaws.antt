@@ -1,27 +1,205 @@
--- Which texts answer a session's commands.
-use Rattle.std.proofs.Common.{◌≡◌, List, ap₂, arith, subst, sym, ℕ, ◌<◌, ◌∙◌, Err, Ok, Result}
-use Rattle.std.specs.Prelude.{IfOk}
+-- What the session's commands answer and leave.
+use Rattle.std.proofs.Common.{Bool, List, [], ap, ap₂, false, not, refl, subst, sym, true, ℕ, ◌+◌, ◌∙◌, ◌∷◌, ◌≡◌}
+use Rattle.std.specs.Prelude.{Err, IfErr, IfOk, None, Ok, Option, Result, Some, is_none, option_and_then, option_map, ◌-◌, ◌==◌, ◌^◌}
+use Rattle.std.specs.Option.{option_map_or}
+use Rattle.std.specs.Result.{IsErrAnd}
+use Rattle.lt_model.specs.Disk.{Rose}
 use Rattle.lt_model.specs.Fair.{Feed, checkpoint_of, place_after}
 use Rattle.lt_model.specs.Log.{Item}
-use Rattle.lt_model.specs.Script.{do_pump, do_scan}
-use Rattle.lt_model.specs.Reply.{Stop, not_safe, pump_done, refusal_text, reply_text}
-use Rattle.lt_model.specs.OneTable.{HasTaken, only_header, scan_query}
-use Rattle.lightning_cli.specs.Sessions.{Answered, FeedCounts}
-use Rattle.lightning_cli.specs.Stops.{Pumped}
-use Rattle.lightning_cli.proofs.AnswerLaws.{checkpoint_is, offset_is, pump_answered, scan_not_safe}
+use Rattle.lt_model.specs.Machine.{State, refused}
+use Rattle.lt_model.specs.OneStream.{HasTaken, only_header, session_after}
+use Rattle.lt_model.specs.Reply as model
+use Rattle.lt_model.specs.Reply.{Stop, feed_fault, no_such_version, out_of_memory, pump_done, refusal_text, reply_text, version_retired}
+use Rattle.lt_model.specs.Schema.{Became, Catalogue, IsCatalogue, Registered, RetireFault, SchemaVersion, Table, first_of, as_it_was, is_live, registered, retire_fault, schema_version, table_named, table_numbered, then_retired, when, whole_version, without_version}
+use Rattle.lt_model.specs.Script.{Command, do_pump, do_retire}
+use Rattle.lt_laws.proofs.AnswerLaws.{named_is_numbered}
+use Rattle.lt_reply.specs.View.{IsSpoken, view_refusal}
+use Rattle.lt_reply.specs.declared.refusal.Refusal.{Refusal}
+use Rattle.lt_reply.specs.declared.refusal.Refusal.TheVariants as refusals
+use Rattle.lightning_cli.specs.Answers.{Commits, IsLive, Refuses, Retires, Stays, named_fault}
+use Rattle.lightning_cli.specs.Sessions.{Answered, FeedCounts, state_of, taken}
+use Rattle.lightning_cli.specs.Stops.{Pumped, PumpedSome}
+use Rattle.lightning_cli.specs.declared.session.Session.{Session}
+use Rattle.lightning_cli.proofs.CommandLaws.{retire_is, retire_refusal}
+use Rattle.lightning_cli.proofs.AnswerLaws.{checkpoint_is, offset_is, pump_answered, pump_failed, pump_lacked}
+
+-- ---- results
 
 -- what holds of a text holds of what is answered with it
 pub answers_with : {A E : Type 0} (r : Result A E) (a : A) (P : A → Type 0) → IfOk r (λ b. b ≡ a) → P a → IfOk r P
 answers_with (Ok b) a P h p = subst P (sym h) p
 answers_with (Err e) a P h p = tt
 
-pub pump_told : (k j : FeedCounts) → j.0 ≡ k.0 → (g : Feed) (old new : List Item) (count records offset checkpoint : ℕ) (stop : Stop) → HasTaken g old → HasTaken g new → Pumped g old new count records stop
-    → offset ≡ place_after only_header new → checkpoint ≡ checkpoint_of only_header new → Answered k j old new (do_pump 0 count) g (reply_text (pump_done 0 records offset checkpoint stop))
-pump_told k j kept g old new count records offset checkpoint stop t t' p o c =
-    subst (λ x. Answered k j old new (do_pump 0 count) g x)
-    (sym (ap₂ (λ a b. reply_text (pump_done 0 records a b stop)) (o ∙ sym (offset_is g new t')) (c ∙ sym (checkpoint_is g new t'))))
-    (pump_answered k j kept g old new count records stop t p)
+-- what holds of an error holds of the result that hands it on
+pub err_is : {A E : Type 0} (r : Result A E) (x : E) (P : E → Type 0) → IsErrAnd r (λ e. e ≡ x) → P x → IfErr r P
+err_is (Ok a) x P h p = tt
+err_is (Err e) x P h p = subst P (sym h) p
 
-pub not_safe_told : (k : FeedCounts) (g : Feed) (items : List Item) (at safe : ℕ) → HasTaken g items → safe ≡ checkpoint_of only_header items → safe < at → Answered k k items items (do_scan (scan_query at)) g (refusal_text (not_safe 0 safe))
-not_safe_told k g items at safe t e above =
-    subst (λ x. Answered k k items items (do_scan (scan_query at)) g (refusal_text (not_safe 0 x))) (sym e) (scan_not_safe k g items at t (omega (arith, e, above)))
+-- a refusal for one reason is one for another that is the same
+pub refuses_to : (o p : Option model.Refusal) → ((r : model.Refusal) → o ≡ Some r → p ≡ Some r) → (e : Refusal) → Refuses o e → Refuses p e
+refuses_to o p f refusals.Worn h = (h.0, f _ h.1)
+refuses_to o p f (refusals.UnknownTable name) h = (h.0, f _ h.1)
+refuses_to o p f (refusals.UnknownVersion version) h = (h.0, f _ h.1)
+refuses_to o p f (refusals.Retired version) h = (h.0, f _ h.1)
+refuses_to o p f (refusals.LastVersion version) h = (h.0, f _ h.1)
+refuses_to o p f (refusals.BadSchema cause) h = (h.0, f _ h.1)
+refuses_to o p f (refusals.NoStream stream) h = (h.0, f _ h.1)
+refuses_to o p f (refusals.NotSafe part checkpoint) h = (h.0, f _ h.1)
+refuses_to o p f refusals.FeedFault h = (h.0, f _ h.1)
+refuses_to o p f refusals.Memory h = tt
+
+pub refuses_spoken : (o : Option model.Refusal) (e : Refusal) → Refuses o e → IsSpoken e
+refuses_spoken o refusals.Worn h = h.0
+refuses_spoken o (refusals.UnknownTable name) h = h.0
+refuses_spoken o (refusals.UnknownVersion version) h = h.0
+refuses_spoken o (refusals.Retired version) h = h.0
+refuses_spoken o (refusals.LastVersion version) h = h.0
+refuses_spoken o (refusals.BadSchema cause) h = h.0
+refuses_spoken o (refusals.NoStream stream) h = h.0
+refuses_spoken o (refusals.NotSafe part checkpoint) h = h.0
+refuses_spoken o refusals.FeedFault h = h.0
+refuses_spoken o refusals.Memory h = tt
+
+-- memory alone is free
+pub refused_or_lacks : (P : model.Refusal → Type 0) (o : Option model.Refusal) → ((e : Refusal) → o ≡ Some (view_refusal e) → P (view_refusal e)) → P out_of_memory → (e : Refusal) → Refuses o e → P (view_refusal e)
+refused_or_lacks P o f m refusals.Worn h = f refusals.Worn h.1
+refused_or_lacks P o f m (refusals.UnknownTable name) h = f (refusals.UnknownTable name) h.1
+refused_or_lacks P o f m (refusals.UnknownVersion version) h = f (refusals.UnknownVersion version) h.1
+refused_or_lacks P o f m (refusals.Retired version) h = f (refusals.Retired version) h.1
+refused_or_lacks P o f m (refusals.LastVersion version) h = f (refusals.LastVersion version) h.1
+refused_or_lacks P o f m (refusals.BadSchema cause) h = f (refusals.BadSchema cause) h.1
+refused_or_lacks P o f m (refusals.NoStream stream) h = f (refusals.NoStream stream) h.1
+refused_or_lacks P o f m (refusals.NotSafe part checkpoint) h = f (refusals.NotSafe part checkpoint) h.1
+refused_or_lacks P o f m refusals.FeedFault h = f refusals.FeedFault h.1
+refused_or_lacks P o f m refusals.Memory h = m
+
+pub stays_itself : (s : Session) → Stays s s
+stays_itself s = record { catalogue = refl; generation = refl; taken = refl }
+
+pub commits_as : (old new : Session) (cat : Catalogue) → Commits old new cat → Commits old new new.catalogue
+commits_as old new cat h = record { lawful = h.lawful; became = subst (Became old.catalogue) (sym h.catalogue) h.became; catalogue = refl; generation = h.generation; taken = h.taken }
+
+-- ---- pumps
+
+-- a pump leaves the catalogue and the generation
+pub pump_from : {k j : FeedCounts} {c : Command} {g : Feed} {text : List ℕ} (old new : Session) → new.catalogue ≡ old.catalogue → new.generation ≡ old.generation
+    → Answered k j (session_after new.catalogue new.generation (taken old)) (state_of new) c g text → Answered k j (state_of old) (state_of new) c g text
+pump_from {k} {j} {c} {g} {text} old new e d h = subst (λ (s : State). Answered k j s (state_of new) c g text) (ap₂ (λ (cat : Catalogue) (n : ℕ). session_after cat n (taken old)) e d) h
+
+pub pump_told : (k j : FeedCounts) → j.0 ≡ k.0 → (g : Feed) (old new : Session) (count records offset checkpoint : ℕ) (stop : Stop) → new.catalogue ≡ old.catalogue → new.generation ≡ old.generation → HasTaken g new.catalogue (taken new)
+    → Pumped g new.catalogue (taken old) (taken new) count records stop → offset ≡ place_after only_header (taken new) → checkpoint ≡ checkpoint_of only_header (taken new)
+    → Answered k j (state_of old) (state_of new) (do_pump 0 count) g (reply_text (pump_done 0 records offset checkpoint stop))
+pump_told k j kept g old new count records offset checkpoint stop e d t p o c = pump_from old new e d
+    (subst (λ x. Answered k j (session_after new.catalogue new.generation (taken old)) (state_of new) (do_pump 0 count) g x)
+    (sym (ap₂ (λ a b. reply_text (pump_done 0 records a b stop)) (o ∙ sym (offset_is g new.catalogue (taken new) t)) (c ∙ sym (checkpoint_is g new.catalogue (taken new) t))))
+    (pump_answered k j kept g new.catalogue new.generation (taken old) (taken new) count records stop t.stream p))
+
+pub pump_fault_told : (k j : FeedCounts) (g : Feed) (old new : Session) (count : ℕ) → new.catalogue ≡ old.catalogue → new.generation ≡ old.generation → HasTaken g new.catalogue (taken new)
+    → PumpedSome g new.catalogue (taken old) (taken new) count → Rose k.0 j.0 → Answered k j (state_of old) (state_of new) (do_pump 0 count) g (refusal_text feed_fault)
+pump_fault_told k j g old new count e d t p rose = pump_from old new e d (pump_failed k j g new.catalogue new.generation (taken old) (taken new) count t.stream p rose)
+
+pub pump_lack_told : (k j : FeedCounts) → j.0 ≡ k.0 → (g : Feed) (old new : Session) (count : ℕ) → new.catalogue ≡ old.catalogue → new.generation ≡ old.generation → HasTaken g new.catalogue (taken new)
+    → PumpedSome g new.catalogue (taken old) (taken new) count → Answered k j (state_of old) (state_of new) (do_pump 0 count) g (refusal_text out_of_memory)
+pump_lack_told k j kept g old new count e d t p = pump_from old new e d (pump_lacked k j kept g new.catalogue new.generation (taken old) (taken new) count t.stream p)
+
+-- ---- the version that a command names
+
+-- the table that has the name
+pub some_named : (cat : Catalogue) (name : List ℕ) (number : ℕ) → Some number ≡ option_map (λ (t : Table). t.number) (table_named cat name) → (t : Table) × (table_named cat name ≡ Some t) × (t.number ≡ number)
+some_named cat name number e = by (table_named cat name) refl e
+  where
+    by : (o : Option Table) → table_named cat name ≡ o → Some number ≡ option_map (λ (t : Table). t.number) o → (t : Table) × (table_named cat name ≡ Some t) × (t.number ≡ number)
+    by None d e = absurd cc
+    by (Some t) d e = (t, d, cc)
+
+pub none_named : (cat : Catalogue) (name : List ℕ) → None ≡ option_map (λ (t : Table). t.number) (table_named cat name) → table_named cat name ≡ None
+none_named cat name e = by (table_named cat name) refl e
+  where
+    by : (o : Option Table) → table_named cat name ≡ o → None ≡ option_map (λ (t : Table). t.number) o → table_named cat name ≡ None
+    by None d e = d
+    by (Some t) d e = absurd cc
+
+abbrev pub entry_fault : ℕ → Option Registered → Option model.Refusal
+entry_fault v x = first_of (when (is_none x) (no_such_version v) ∷ when (option_map_or (λ r. not r.live) x false) (version_retired v) ∷ [])
+
+-- of a table that is named, the fault lies in the version
+named_entry : (cat : Catalogue) (name : List ℕ) (v : ℕ) (t : Table) → table_named cat name ≡ Some t → named_fault cat name v ≡ entry_fault v (registered t v)
+named_entry cat name v t e = ap (λ (o : Option Table). first_of (when (is_none o) (model.no_such_table name) ∷ when (is_none (option_and_then (λ x. registered x v) o)) (no_such_version v)
+    ∷ when (option_map_or (λ r. not r.live) (option_and_then (λ x. registered x v) o) false) (version_retired v) ∷ [])) e
+
+version_at : (cat : Catalogue) (t : Table) (v : ℕ) → table_numbered cat t.number ≡ Some t → schema_version cat t.number v ≡ option_map (whole_version t v) (registered t v)
+version_at cat t v e = ap (option_and_then (λ t. option_map (whole_version t v) (registered t v))) e
+
+live_at : (cat : Catalogue) (t : Table) (v : ℕ) → table_numbered cat t.number ≡ Some t → is_live cat t.number v ≡ option_map_or (λ r. r.live) (registered t v) false
+live_at cat t v e = ap (λ (o : Option Table). option_map_or (λ r. r.live) (option_and_then (λ t. registered t v) o) false) e
+
+pub no_version : (cat : Catalogue) (name : List ℕ) (number v : ℕ) → IsCatalogue cat → Some number ≡ option_map (λ (t : Table). t.number) (table_named cat name) → None ≡ schema_version cat number v → named_fault cat name v ≡ Some (no_such_version v)
+no_version cat name number v is e d =
+    let n = some_named cat name number e in
+    let t = n.0 in
+    named_entry cat name v t n.1 ∙ by t (registered t v) (d ∙ ap (λ (m : ℕ). schema_version cat m v) (sym n.2) ∙ version_at cat t v (named_is_numbered cat name t is n.1))
+  where
+    by : (t : Table) (x : Option Registered) → None ≡ option_map (whole_version t v) x → entry_fault v x ≡ Some (no_such_version v)
+    by t None h = refl
+    by t (Some r) h = absurd cc
+
+pub not_live : (cat : Catalogue) (name : List ℕ) (number v : ℕ) (version : SchemaVersion) → IsCatalogue cat → Some number ≡ option_map (λ (t : Table). t.number) (table_named cat name) → Some version ≡ schema_version cat number v
+    → false ≡ is_live cat number v → named_fault cat name v ≡ Some (version_retired v)
+not_live cat name number v version is e d l =
+    let n = some_named cat name number e in
+    let t = n.0 in
+    let i = named_is_numbered cat name t is n.1 in
+    named_entry cat name v t n.1 ∙ by t (registered t v) (d ∙ ap (λ (m : ℕ). schema_version cat m v) (sym n.2) ∙ version_at cat t v i) (l ∙ ap (λ (m : ℕ). is_live cat m v) (sym n.2) ∙ live_at cat t v i)
+  where
+    by : (t : Table) (x : Option Registered) → Some version ≡ option_map (whole_version t v) x → false ≡ option_map_or (λ r. r.live) x false → entry_fault v x ≡ Some (version_retired v)
+    by t None h k = absurd cc
+    by t (Some r) h k = ap (λ (b : Bool). first_of (when (not b) (version_retired v) ∷ [])) (sym k)
+
+pub is_found : (cat : Catalogue) (name : List ℕ) (number v : ℕ) (version : SchemaVersion) → IsCatalogue cat → Some number ≡ option_map (λ (t : Table). t.number) (table_named cat name) → Some version ≡ schema_version cat number v
+    → true ≡ is_live cat number v → IsLive cat name v version
+is_found cat name number v version is e d l =
+    let n = some_named cat name number e in
+    let t = n.0 in
+    let i = named_is_numbered cat name t is n.1 in
+    by t n.1 i (registered t v) refl (d ∙ ap (λ (m : ℕ). schema_version cat m v) (sym n.2) ∙ version_at cat t v i) (l ∙ ap (λ (m : ℕ). is_live cat m v) (sym n.2) ∙ live_at cat t v i)
+  where
+    by : (t : Table) → table_named cat name ≡ Some t → table_numbered cat t.number ≡ Some t → (x : Option Registered) → registered t v ≡ x → Some version ≡ option_map (whole_version t v) x → true ≡ option_map_or (λ r. r.live) x false → IsLive cat name v version
+    by t n i None f h k = absurd cc
+    by t n i (Some r) f h k = record { lawful = is; table = t; named = n; numbered = i; entry = r; found = f; live = sym k; is = cc }
+
+-- ---- retirements
+
+abbrev pub numbers : Catalogue → List ℕ → ℕ → Type 0
+numbers cat name number = Some number ≡ option_map (λ (t : Table). t.number) (table_named cat name)
+
+pub retire_told : (cat : Catalogue) (n : ℕ) (items : List Item) (name : List ℕ) (number v : ℕ) (fault : RetireFault) → (n == 2 ^ 64 - 1) ≡ false → IsCatalogue cat → numbers cat name number → retire_fault cat number v ≡ Some fault
+    → refused (session_after cat n items) (do_retire name v) ≡ Some (retire_refusal name v fault)
+retire_told cat n items name number v fault e is d f =
+    let t = some_named cat name number d in
+    retire_is cat n items name v t.0 e is t.1 ∙ ap (λ (m : ℕ). option_map (retire_refusal name v) (retire_fault cat m v)) t.2 ∙ ap (option_map (retire_refusal name v)) f
+
+pub retire_lets : (cat : Catalogue) (n : ℕ) (items : List Item) (name : List ℕ) (number v : ℕ) → (n == 2 ^ 64 - 1) ≡ false → IsCatalogue cat → numbers cat name number → retire_fault cat number v ≡ None
+    → refused (session_after cat n items) (do_retire name v) ≡ None
+retire_lets cat n items name number v e is d f =
+    let t = some_named cat name number d in
+    retire_is cat n items name v t.0 e is t.1 ∙ ap (λ (m : ℕ). option_map (retire_refusal name v) (retire_fault cat m v)) t.2 ∙ ap (option_map (retire_refusal name v)) f
+
+pub retires : (old new : Session) (name : List ℕ) (number v : ℕ) → IsCatalogue old.catalogue → numbers old.catalogue name number → retire_fault old.catalogue number v ≡ None → new.catalogue ≡ without_version old.catalogue number v
+    → new.generation ≡ old.generation + 1 → taken new ≡ taken old → Retires old new name v
+retires old new name number v is d f c g k =
+    let t = some_named old.catalogue name number d in
+    let free = ap (λ (m : ℕ). retire_fault old.catalogue m v) t.2 ∙ f in
+    record {
+      table = t.0;
+      named = t.1;
+      commits = record {
+        lawful = is;
+        became = then_retired old.catalogue t.0.number v as_it_was free;
+        catalogue = c ∙ ap (λ (m : ℕ). without_version old.catalogue m v) (sym t.2);
+        generation = g;
+        taken = k;
+      };
+    }
+
+pub numbered_by : {name bytes : List ℕ} {number : ℕ} (cat : Catalogue) → Some number ≡ option_map (λ (t : Table). t.number) (table_named cat bytes) → bytes ≡ name → numbers cat name number
+numbered_by {name} {bytes} {number} cat e b = e ∙ ap (λ x. option_map (λ (t : Table). t.number) (table_named cat x)) b

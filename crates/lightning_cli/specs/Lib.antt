@@ -1,9 +1,8 @@
-pub mod Lines
 pub mod Sessions
 pub mod Serving
 pub mod Turns
-pub mod Points
 pub mod Pumps
-pub mod Scans
 pub mod Stops
 pub mod Steps
+pub mod Fairness
+pub mod Answers

@@ -1,14 +1,15 @@
 -- How far a run of a script has come.
-use Rattle.std.specs.Prelude.{IfSome, List, Option, Some, [], length, take, ℕ, ◌+◌, ◌++◌, ◌∷◌, ◌≡◌, ◌≤◌, ◌⊎◌}
+use Rattle.std.specs.Prelude.{IfSome, List, Option, Some, [], length, ℕ, ◌+◌, ◌++◌, ◌∷◌, ◌≡◌, ◌≤◌, ◌⊎◌}
 use Rattle.std.specs.Io.KnownBytes.{Appends}
 use Rattle.lt_model.specs.Fair.{Feed}
-use Rattle.lt_model.specs.Log.{Item}
 use Rattle.lt_model.specs.Outside.{StaysTold}
-use Rattle.lt_model.specs.Script.{max_line, script_lines}
+use Rattle.lt_model.specs.Script.{script_lines}
 use Rattle.lt_model.specs.Run.{Counts, IsOver, Moment, counts_after, feed_after, Runs, lines_ended, run_text, state_after}
 use Rattle.lt_model.specs.Program.{IsFront, RunEnds, Told, Trace}
-use Rattle.lt_model.specs.OneTable.{HasTaken, only_rules, only_session, session_after}
-use Rattle.lightning_cli.specs.Sessions.{FeedCounts, feed_counts}
+use Rattle.lt_model.specs.OneStream.{only_rules, only_session}
+use Rattle.lt_script.specs.Lines.{kept_of}
+use Rattle.lightning_cli.specs.Sessions.{Belongs, FeedCounts, feed_counts, state_of}
+use Rattle.lightning_cli.specs.declared.session.Session.{Session}
 
 -- the counts, but for the feed's
 abbrev pub with_feed : Counts → FeedCounts → Counts
@@ -22,15 +23,15 @@ AppendsFront old new bytes = (front : List ℕ) × IsFront front bytes × Append
 abbrev pub WritesSome : Option (List ℕ) → Option (List ℕ) → List ℕ → List ℕ → Type 0
 WritesSome old new replies kept = (first : List ℕ) × Appends old new first × (replies ≡ first ++ kept)
 
--- These lines were answered from a feed and counts on: the feed and its counts now, the items taken, what was written and the replies
+-- These lines were answered from a feed and counts on: the feed and its counts now, the session, what was written and the replies
 -- that are not written yet.
-pub record HasRun (f0 : Feed) (n0 : Counts) (lines : List (List ℕ)) (written : List ℕ) (f : Feed) (counted : FeedCounts) (items : List Item) (replies : List ℕ) : Type 0 where
+pub record HasRun (f0 : Feed) (n0 : Counts) (lines : List (List ℕ)) (written : List ℕ) (f : Feed) (counted : FeedCounts) (session : Session) (replies : List ℕ) : Type 0 where
   pub moments : List Moment
   pub runs : Runs only_rules f0 n0 only_session lines moments
   pub feed : feed_after f0 moments ≡ f
   pub counts : counts_after n0 moments ≡ with_feed n0 counted
-  pub state : state_after only_session moments ≡ session_after items
-  pub has : HasTaken f items
+  pub state : state_after only_session moments ≡ state_of session
+  pub has : Belongs f session
   pub text : run_text moments ≡ written ++ replies
 
 -- The lines that some first ones of these bytes end were answered, what was written is a front of their text, and the run is over with
@@ -43,10 +44,6 @@ pub record HasRunSome (f0 : Feed) (n0 : Counts) (bytes written : List ℕ) (f : 
   pub front : IsFront written (run_text moments)
   pub over : IsOver f0 n0 moments status f (with_feed n0 counted)
 
--- the first bytes of a line: as many as tell whether it is too long
-abbrev pub kept_of : List ℕ → List ℕ
-kept_of line = take (max_line + 1) line
-
 -- the line that is open behind the bytes
 abbrev pub last_of_all : List (List ℕ) → List ℕ
 last_of_all [] = []
@@ -57,8 +54,8 @@ abbrev pub open_line : List ℕ → List ℕ
 open_line bytes = last_of_all (script_lines bytes)
 
 -- The lines that these bytes end were answered, and the first bytes of the open one are kept.
-pub record Stands (f0 : Feed) (n0 : Counts) (bytes written : List ℕ) (f : Feed) (counted : FeedCounts) (items : List Item) (replies kept : List ℕ) : Type 0 where
-  pub run : HasRun f0 n0 (lines_ended bytes) written f counted items replies
+pub record Stands (f0 : Feed) (n0 : Counts) (bytes written : List ℕ) (f : Feed) (counted : FeedCounts) (session : Session) (replies kept : List ℕ) : Type 0 where
+  pub run : HasRun f0 n0 (lines_ended bytes) written f counted session replies
   pub line : kept ≡ kept_of (open_line bytes)
 
 -- what the objects tell, and the counts of the feed, the sink and the script
@@ -77,7 +74,7 @@ pub record SameDisk (n m : Counts) : Type 0 where
   pub clock : m.clock ≡ n.clock
 
 -- A run that goes on: of the script so many bytes were taken.
-pub record IsServing (old now : Told) (count : ℕ) (items : List Item) (replies kept : List ℕ) : Type 0 where
+pub record IsServing (old now : Told) (count : ℕ) (session : Session) (replies kept : List ℕ) : Type 0 where
   pub bytes : List ℕ
   pub written : List ℕ
   pub number : length bytes ≡ count
@@ -85,7 +82,7 @@ pub record IsServing (old now : Told) (count : ℕ) (items : List Item) (replies
   pub wrote : now.written ≡ old.written ++ written
   pub out : now.counts.out ≡ old.counts.out
   pub script : now.counts.script ≡ old.counts.script
-  pub stands : Stands old.feed old.counts bytes written now.feed (feed_counts now.counts) items replies kept
+  pub stands : Stands old.feed old.counts bytes written now.feed (feed_counts now.counts) session replies kept
 
 -- A run that is over, with this status.
 pub record Served (old new : Told) (status : ℕ) : Type 0 where

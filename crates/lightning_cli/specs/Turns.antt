@@ -4,7 +4,7 @@ use Rattle.std.specs.Io.KnownBytes.{Appends}
 use Rattle.lt_model.specs.Fair.{Feed}
 use Rattle.lt_model.specs.Run.{Counts}
 use Rattle.lightning_cli.specs.Serving.{HasRunSome, Stands}
-use Rattle.lightning_cli.specs.Sessions.{FeedCounts, taken}
+use Rattle.lightning_cli.specs.Sessions.{FeedCounts}
 use Rattle.lightning_cli.specs.declared.server.Server.{Server}
 use Rattle.lightning_cli.specs.declared.server.TakeFault.{TakeFault}
 use Rattle.lightning_cli.specs.declared.server.TakeFault.TheVariants as faults
@@ -31,4 +31,4 @@ take_status faults.Sink = 4
 -- front of their text was written.
 abbrev pub TakesPiece : Feed → Counts → List ℕ → List ℕ → Feed → FeedCounts → Option (List ℕ) → Option (List ℕ) → Server → Result (Unit {0}) TakeFault → Type 0
 TakesPiece f0 n0 bytes written f counted held held' s r = (more : List ℕ) × Appends held held' more
-    × MatchResult r (λ _. Stands f0 n0 bytes (written ++ more) f counted (taken s.session) [] s.line.items) (λ e. HasRunSome f0 n0 bytes (written ++ more) f counted (take_status e))
+    × MatchResult r (λ _. Stands f0 n0 bytes (written ++ more) f counted s.session [] s.line.items) (λ e. HasRunSome f0 n0 bytes (written ++ more) f counted (take_status e))

@@ -1,14 +1,11 @@
 //! A read replica that follows one stream of a change log and answers scans at a timestamp.
 #![tactic(auto)]
 
-mod line;
 mod output;
 mod program;
-mod scan;
 mod serve;
 mod server;
 mod session;
-mod table;
 #[cfg(test)]
 mod tests;
 

@@ -3,7 +3,7 @@
 ghost use Rattle.std.specs.Prelude.{IfSome, ◌≡◌, ◌≢◌, ◌<◌, ◌≤◌, ◌⊎◌, false, length, map, string_bytes, true};
 ghost use Rattle.lt_model.specs.Run.{max_script};
 ghost use Rattle.lt_model.specs.Disk.{Rose};
-ghost use Rattle.lt_model.specs.OneTable.{Did, IsOneStream, is_run, is_status};
+ghost use Rattle.lt_model.specs.OneStream.{Did, IsOneStream, is_run, is_status};
 ghost use Rattle.lt_model.specs.Outside.{FailsAt, FeedGrows, StaysTold};
 ghost use Rattle.lt_model.specs.Program.{Tells, Told, counts_of};
 

@@ -9,8 +9,8 @@ ghost use Rattle.lt_model.specs.Outside.{FailsAt};
 ghost use Rattle.lt_model.specs.Program.{Told};
 ghost use Rattle.lt_model.specs.Run.{max_script};
 ghost use Rattle.lightning_cli.specs.Serving.{Goes, IsRunStatus, IsServing, IsTaken, SameDisk, Sees, Served};
-ghost use Rattle.lt_model.specs.OneTable.{HasTaken};
-ghost use Rattle.lightning_cli.specs.Sessions.{FeedGoes, taken};
+ghost use Rattle.lt_model.specs.OneStream.{only_session};
+ghost use Rattle.lightning_cli.specs.Sessions.{Belongs, FeedGoes, state_of};
 ghost use Rattle.lightning_cli.specs.Turns.{IfMore, IfOver};
 
 use crate::output::finish;
@@ -46,7 +46,7 @@ fn end<F: Feed, K: Sink>(server: &mut Server, alloc: Global, feed: &mut F, out: 
     ensures served { (old mid now : Told) (count : ℕ) → Sees (F.told feed.old) (Some mid.script) (K.held out.old) (F.faults feed.old, F.calls feed.old) (K.faults out.old) mid.counts.script mid
         → Sees (F.told feed.new) (Some now.script) (K.held out.new) (F.faults feed.new, F.calls feed.new) (K.faults out.new) mid.counts.script now
         → mid.script ≡ [] → now.script ≡ [] → SameDisk old.counts now.counts → count ≤ 2 ^ 32
-        → IsServing old mid count (taken server.old.session) server.old.replies.items server.old.line.items → Served old now result }
+        → IsServing old mid count server.old.session server.old.replies.items server.old.line.items → Served old now result }
     ensures cause { result ≡ 4 → Rose (K.faults out.old) (K.faults out.new) }
     ensures stops { result ≡ 4 → FailsAt (K.held out.new) (K.failed_at out.old) (K.failed_at out.new) }
     ensures kept { result ≢ 4 → (K.faults out.new ≡ K.faults out.old) × (K.failed_at out.new ≡ K.failed_at out.old) }
@@ -73,7 +73,7 @@ fn cut<F: Feed, K: Sink>(
     ensures served { (old mid now : Told) (count : ℕ) (more : List ℕ) → Sees (F.told feed.old) (Some mid.script) (K.held out.old) (F.faults feed.old, F.calls feed.old) (K.faults out.old) mid.counts.script mid
         → Sees (F.told feed.new) (Some now.script) (K.held out.new) (F.faults feed.new, F.calls feed.new) (K.faults out.new) mid.counts.script now
         → mid.script ≡ (bytes.now ++ more) ++ now.script → count + length bytes.now ≡ 2 ^ 32 → 0 < length more → SameDisk old.counts now.counts
-        → IsServing old mid count (taken server.old.session) server.old.replies.items server.old.line.items → Served old now result }
+        → IsServing old mid count server.old.session server.old.replies.items server.old.line.items → Served old now result }
     ensures cause { result ≡ 4 → Rose (K.faults out.old) (K.faults out.new) }
     ensures stops { result ≡ 4 → FailsAt (K.held out.new) (K.failed_at out.old) (K.failed_at out.new) }
     ensures kept { result ≢ 4 → (K.faults out.new ≡ K.faults out.old) × (K.failed_at out.new ≡ K.failed_at out.old) }
@@ -101,11 +101,11 @@ fn digest<F: Feed, K: Sink>(
     ensures more { IfMore result (λ n. (n ≡ length piece.now) × (server.new.replies.items ≡ []) × (K.faults out.new ≡ K.faults out.old) × (K.failed_at out.new ≡ K.failed_at out.old)) }
     ensures goes_on { (old mid now : Told) (count : ℕ) → Sees (F.told feed.old) (Some mid.script) (K.held out.old) (F.faults feed.old, F.calls feed.old) (K.faults out.old) mid.counts.script mid
         → Sees (F.told feed.new) (Some now.script) (K.held out.new) (F.faults feed.new, F.calls feed.new) (K.faults out.new) mid.counts.script now
-        → mid.script ≡ piece.now ++ now.script → IsServing old mid count (taken server.old.session) server.old.replies.items server.old.line.items
-        → IfMore result (λ n. IsServing old now (count + n) (taken server.new.session) [] server.new.line.items) }
+        → mid.script ≡ piece.now ++ now.script → IsServing old mid count server.old.session server.old.replies.items server.old.line.items
+        → IfMore result (λ n. IsServing old now (count + n) server.new.session [] server.new.line.items) }
     ensures served { (old mid now : Told) (count : ℕ) → Sees (F.told feed.old) (Some mid.script) (K.held out.old) (F.faults feed.old, F.calls feed.old) (K.faults out.old) mid.counts.script mid
         → Sees (F.told feed.new) (Some now.script) (K.held out.new) (F.faults feed.new, F.calls feed.new) (K.faults out.new) mid.counts.script now
-        → mid.script ≡ piece.now ++ now.script → count + length piece.now ≤ 2 ^ 32 → SameDisk old.counts now.counts → IsServing old mid count (taken server.old.session) server.old.replies.items server.old.line.items → IfOver result (Served old now) }
+        → mid.script ≡ piece.now ++ now.script → count + length piece.now ≤ 2 ^ 32 → SameDisk old.counts now.counts → IsServing old mid count server.old.session server.old.replies.items server.old.line.items → IfOver result (Served old now) }
     ensures cause { IfOver result (λ status. status ≡ 4 → Rose (K.faults out.old) (K.faults out.new)) }
     ensures stops { IfOver result (λ status. status ≡ 4 → FailsAt (K.held out.new) (K.failed_at out.old) (K.failed_at out.new)) }
     ensures kept { IfOver result (λ status. status ≢ 4 → (K.faults out.new ≡ K.faults out.old) × (K.failed_at out.new ≡ K.failed_at out.old)) }
@@ -137,10 +137,10 @@ fn take_piece<F: Feed, S: Source, K: Sink>(
     ensures unstopped { IfMore result (λ n. (K.failed_at out.new ≡ K.failed_at out.old) × (S.failed_at script.new ≡ S.failed_at script.old)) }
     ensures goes_on { (old mid now : Told) → Sees (F.told feed.old) (S.left script.old) (K.held out.old) (F.faults feed.old, F.calls feed.old) (K.faults out.old) (S.faults script.old) mid
         → Sees (F.told feed.new) (S.left script.new) (K.held out.new) (F.faults feed.new, F.calls feed.new) (K.faults out.new) (S.faults script.new) now
-        → IsServing old mid count (taken server.old.session) server.old.replies.items server.old.line.items → IfMore result (λ n. IsServing old now (count + n) (taken server.new.session) [] server.new.line.items) }
+        → IsServing old mid count server.old.session server.old.replies.items server.old.line.items → IfMore result (λ n. IsServing old now (count + n) server.new.session [] server.new.line.items) }
     ensures served { (old mid now : Told) → Sees (F.told feed.old) (S.left script.old) (K.held out.old) (F.faults feed.old, F.calls feed.old) (K.faults out.old) (S.faults script.old) mid
         → Sees (F.told feed.new) (S.left script.new) (K.held out.new) (F.faults feed.new, F.calls feed.new) (K.faults out.new) (S.faults script.new) now
-        → SameDisk old.counts now.counts → IsServing old mid count (taken server.old.session) server.old.replies.items server.old.line.items → IfOver result (Served old now) }
+        → SameDisk old.counts now.counts → IsServing old mid count server.old.session server.old.replies.items server.old.line.items → IfOver result (Served old now) }
     ensures script_fault { IfOver result (λ status. status ≡ 3 → Rose (S.faults script.old) (S.faults script.new)) }
     ensures out_fault { IfOver result (λ status. status ≡ 4 → Rose (K.faults out.old) (K.faults out.new)) }
     ensures script_stops { IfOver result (λ status. ((status ≢ 3) × (S.faults script.new ≡ S.faults script.old) × (S.failed_at script.new ≡ S.failed_at script.old)) ⊎ FailsAt (S.left script.new) (S.failed_at script.old) (S.failed_at script.new)) }
@@ -177,10 +177,10 @@ pub fn serve<F: Feed, S: Source, K: Sink>(
     out: &mut K,
 ) -> u8
     requires known { 0 < F.known feed.old }
-    requires fresh { taken session ≡ [] }
+    requires fresh { state_of session ≡ only_session }
     ensures served { (old now : Told) → Sees (F.told feed.old) (S.left script.old) (K.held out.old) (F.faults feed.old, F.calls feed.old) (K.faults out.old) (S.faults script.old) old
         → Sees (F.told feed.new) (S.left script.new) (K.held out.new) (F.faults feed.new, F.calls feed.new) (K.faults out.new) (S.faults script.new) now
-        → SameDisk old.counts now.counts → HasTaken old.feed [] → Served old now result }
+        → SameDisk old.counts now.counts → Belongs old.feed session → Served old now result }
     ensures script_fault { result ≡ 3 → Rose (S.faults script.old) (S.faults script.new) }
     ensures out_fault { result ≡ 4 → Rose (K.faults out.old) (K.faults out.new) }
     ensures script_stops { ((result ≢ 3) × (S.faults script.new ≡ S.faults script.old)) ⊎ FailsAt (S.left script.new) (S.failed_at script.old) (S.failed_at script.new) }

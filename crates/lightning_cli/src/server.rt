@@ -9,16 +9,17 @@ ghost use Rattle.lt_model.specs.Disk.{HasCause, Rose};
 ghost use Rattle.lt_model.specs.Outside.{FailsAt, KeepsFirstFault, StaysTold};
 ghost use Rattle.lt_model.specs.Fair.{Feed as Streams};
 ghost use Rattle.lt_model.specs.Run.{Counts};
-ghost use Rattle.lightning_cli.specs.Serving.{AppendsFront, Goes, HasRun, Stands, WritesSome, kept_of};
+ghost use Rattle.lightning_cli.specs.Serving.{AppendsFront, Goes, HasRun, Stands, WritesSome};
+ghost use Rattle.lt_script.specs.Lines.{kept_of};
 ghost use Rattle.lightning_cli.specs.Turns.{TakesPiece, take_status};
 ghost use Rattle.lightning_cli.specs.declared.server.TakeFault.TheVariants as faults;
-ghost use Rattle.lightning_cli.specs.Sessions.{FeedGoes, taken};
+ghost use Rattle.lightning_cli.specs.Sessions.{FeedGoes};
 
-use crate::line::{self, Line, MAX_LINE};
 use crate::output::put;
 use crate::session::Session;
 use lt_core::Memory;
 use lt_io::{Feed, Sink, WriteFault};
+use lt_script::{Line, MAX_LINE, read_line};
 use std::alloc::Global;
 
 const LINE_FEED: u8 = b'\n';
@@ -103,7 +104,7 @@ impl Server {
     ) -> Result<(), TakeFault>
         requires { 0 < F.known feed.old }
         ensures taken { (f g f0 : Streams) (n0 : Counts) (before written : List ℕ) → F.told feed.old ≡ Some f → F.told feed.new ≡ Some g
-            → Stands f0 n0 before written f (F.faults feed.old, F.calls feed.old) (taken self.old.session) self.old.replies.items self.old.line.items
+            → Stands f0 n0 before written f (F.faults feed.old, F.calls feed.old) self.old.session self.old.replies.items self.old.line.items
             → TakesPiece f0 n0 (before ++ bytes.now) written g (F.faults feed.new, F.calls feed.new) (K.held out.old) (K.held out.new) self.new result }
         ensures written { OnOk result (self.new.replies.items ≡ []) }
         ensures kept { OnOk result ((K.faults out.new ≡ K.faults out.old) × (K.failed_at out.new ≡ K.failed_at out.old)) }
@@ -153,8 +154,8 @@ impl Server {
     fn take_byte<F: Feed>(&mut self, alloc: Global, feed: &mut F, byte: u8) -> Result<(), Memory>
         requires { 0 < F.known feed.old }
         ensures ok { (f g f0 : Streams) (n0 : Counts) (before written : List ℕ) → F.told feed.old ≡ Some f → F.told feed.new ≡ Some g
-            → Stands f0 n0 before written f (F.faults feed.old, F.calls feed.old) (taken self.old.session) self.old.replies.items self.old.line.items
-            → OnOk result (Stands f0 n0 (before ++ byte ∷ []) written g (F.faults feed.new, F.calls feed.new) (taken self.new.session) self.new.replies.items self.new.line.items) }
+            → Stands f0 n0 before written f (F.faults feed.old, F.calls feed.old) self.old.session self.old.replies.items self.old.line.items
+            → OnOk result (Stands f0 n0 (before ++ byte ∷ []) written g (F.faults feed.new, F.calls feed.new) self.new.session self.new.replies.items self.new.line.items) }
         ensures feed { FeedGoes (F.told feed.old) (F.told feed.new) (F.known feed.old) (F.known feed.new) (F.faults feed.old, F.calls feed.old) (F.faults feed.new, F.calls feed.new) }
     {
         if byte == LINE_FEED {
@@ -172,12 +173,12 @@ impl Server {
     pub fn answer<F: Feed>(&mut self, alloc: Global, feed: &mut F) -> Result<(), Memory>
         requires { 0 < F.known feed.old }
         ensures ok { (f g f0 : Streams) (n0 : Counts) (lines : List (List ℕ)) (written line : List ℕ) → F.told feed.old ≡ Some f → F.told feed.new ≡ Some g → self.old.line.items ≡ kept_of line
-            → HasRun f0 n0 lines written f (F.faults feed.old, F.calls feed.old) (taken self.old.session) self.old.replies.items
-            → OnOk result (HasRun f0 n0 (lines ++ line ∷ []) written g (F.faults feed.new, F.calls feed.new) (taken self.new.session) self.new.replies.items) }
+            → HasRun f0 n0 lines written f (F.faults feed.old, F.calls feed.old) self.old.session self.old.replies.items
+            → OnOk result (HasRun f0 n0 (lines ++ line ∷ []) written g (F.faults feed.new, F.calls feed.new) self.new.session self.new.replies.items) }
         ensures line { self.new.line.items ≡ self.old.line.items }
         ensures feed { FeedGoes (F.told feed.old) (F.told feed.new) (F.known feed.old) (F.known feed.new) (F.faults feed.old, F.calls feed.old) (F.faults feed.new, F.calls feed.new) }
     {
-        match line::read_line(alloc, self.line.as_slice())? {
+        match read_line(alloc, self.line.as_slice())? {
             Line::Skipped => Ok(()),
             Line::Bad => {
                 self.replies.extend_from_slice(BAD_LINE)?;

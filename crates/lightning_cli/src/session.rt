@@ -1,49 +1,49 @@
-//! A run's session: the items that were taken of the stream, and what a command does to it.
+//! A run's session: the catalogue, the items that were taken of the stream, and what a command does to them.
 //!
 //! The session keeps the plain list of items, and a scan folds it: this program is the definitions' companion. A pump takes time by what
 //! it takes, and a scan by all items taken so far.
 
-ghost use Rattle.std.specs.Prelude.{◌≡◌, ◌<◌, ◌^◌, ◌∷◌, ℤ, [], IsTrue, map};
-ghost use Rattle.lt_model.specs.Key.{int_part, key_bytes};
-ghost use Rattle.lt_model.specs.Fair.{checkpoint_of, last_ts, place_after};
-ghost use Rattle.lt_model.specs.OneTable.{only_header};
-ghost use Rattle.lt_model.specs.Value.{fits_64};
-ghost use Rattle.lt_records.specs.View.{view_item};
+ghost use Rattle.std.specs.Prelude.{◌≡◌, ◌<◌, ◌^◌, map};
+ghost use Rattle.lt_model.specs.Fair.{place_after, point_of};
+ghost use Rattle.lt_model.specs.OneStream.{only_header};
+ghost use Rattle.lt_fair.specs.View.{header_of, point_in};
+ghost use Rattle.lt_records.specs.View.{view_header, view_item};
 ghost use Rattle.std.proofs.Props.{props};
-ghost use Rattle.lightning_cli.specs.Points.{last_at};
-ghost use Rattle.lightning_cli.specs.Scans.{AreFair};
+ghost use Rattle.lightning_cli.specs.Fairness.{AreFair};
 
 mod ahead;
 mod answer;
 mod attach;
-mod fairness;
 mod pump;
 mod reading;
-mod replies;
-mod stop;
 
-use crate::line::Command;
+use crate::session::answer::line_of;
 use crate::session::attach::look;
-use crate::session::fairness::Point;
-use lt_core::{Blob, Memory, Ts};
+use lt_core::{Blob, KeyBytes, Memory, Range, Ts};
+use lt_fair::Checker;
 use lt_io::Feed;
-use lt_records::LogRecord;
+use lt_records::{LogRecord, StreamHeader};
+use lt_schema::Catalogue;
+use lt_script::Command;
 use std::alloc::Global;
 
 /// The length of the header's frame.
 const HEADER: u64 = 18;
 
-/// What was taken of the stream, and the place behind it.
+/// The catalogue, what was taken of the stream, and the place behind it.
 #[derive(Debug, Drop)]
 pub struct Session {
+    catalogue: Catalogue,
+    /// How often the catalogue changed, from 1.
+    generation: u64,
     items: Vec<LogRecord>,
     offset: u64,
-    point: Point,
+    checker: Checker,
     pub ghost place: { offset ≡ place_after only_header (map view_item items.items) },
     pub ghost small: { offset < 2 ^ 63 },
-    pub ghost checkpoint: { point.checkpoint ≡ checkpoint_of only_header (map view_item items.items) },
-    pub ghost fair: { AreFair (map view_item items.items) } by { Prim.hlevel props },
-    pub ghost last: { (z : ℤ) → IsTrue (fits_64 z) → last_at point.last z ≡ last_ts (key_bytes 1 (int_part z ∷ [])) (map view_item items.items) },
+    pub ghost header: { header_of checker ≡ only_header },
+    pub ghost point: { point_in checker ≡ point_of only_header (map view_item items.items) },
+    pub ghost fair: { AreFair catalogue (map view_item items.items) } by { Prim.hlevel props },
 }
 
 /// Why no session begins.
@@ -56,22 +56,25 @@ pub enum AttachRefusal {
 }
 
 impl Session {
-    ghost use Rattle.std.specs.Prelude.{◌≤◌, Some, IfOk, OnOk, IfSome, IsErrOf};
-    ghost use Rattle.lt_model.specs.Fair.{Feed as Streams};
+    ghost use Rattle.std.specs.Prelude.{◌≤◌, [], Some, IfOk, OnOk, IfSome, IsErrOf};
+    ghost use Rattle.lt_model.specs.Fair.{Feed as Streams, checkpoint_of};
     ghost use Rattle.lt_model.specs.Disk.{Rose};
-    ghost use Rattle.lt_model.specs.OneTable.{HasTaken, IsOneStream};
-    ghost use Rattle.lightning_cli.specs.Sessions.{Answered, FeedGoes, taken};
-    ghost use Rattle.lightning_cli.specs.Lines.{view_command};
+    ghost use Rattle.lt_model.specs.OneStream.{IsOneStream, only_session};
+    ghost use Rattle.lightning_cli.specs.Sessions.{Answered, Belongs, FeedGoes, state_of, taken};
+    ghost use Rattle.lt_script.specs.Lines.{view_command};
 
-    /// A session that has taken nothing.
+    /// A session without tables that has taken nothing.
     #[tactic(auto, using(crate::proofs::TakeLaws::place_first, crate::proofs::FairItems::none_fair))]
     fn begin(alloc: Global) -> Session
-        ensures { taken result ≡ [] }
+        ensures state { state_of result ≡ only_session }
+        ensures taken { taken result ≡ [] }
     {
         Session {
+            catalogue: Catalogue::new(alloc),
+            generation: 1,
             items: Vec::new(alloc),
             offset: HEADER,
-            point: Point::new(alloc),
+            checker: Checker::new(whole_header(alloc)),
         }
     }
 
@@ -79,7 +82,7 @@ impl Session {
     fn checkpoint(&self) -> Ts
         ensures { result ≡ checkpoint_of only_header (taken self.now) }
     {
-        self.point.checkpoint
+        self.checker.checkpoint()
     }
 
     /// The place in the stream behind what was taken, in bytes.
@@ -98,7 +101,7 @@ impl Session {
 
     /// Begins a session behind the header of the feed's one stream.
     pub fn attach<F: Feed>(alloc: Global, feed: &mut F) -> Result<Session, AttachRefusal>
-        ensures ok { IfOk result (λ s. (taken s ≡ []) × (0 < F.known feed.new) × IfSome (F.told feed.new) IsOneStream) }
+        ensures ok { IfOk result (λ s. (state_of s ≡ only_session) × (taken s ≡ []) × (0 < F.known feed.new) × IfSome (F.told feed.new) IsOneStream) }
         ensures mismatch { IsErrOf result AttachRefusal.Mismatch → (F.faults feed.new ≡ F.faults feed.old) × IfSome (F.told feed.new) (λ f. IsOneStream f → ⊥) }
         ensures fault { IsErrOf result AttachRefusal.Feed → Rose (F.faults feed.old) (F.faults feed.new) }
         ensures no_memory { IsErrOf result AttachRefusal.Memory → ⊥ }
@@ -117,13 +120,28 @@ impl Session {
         feed: &mut F,
     ) -> Result<Blob, Memory>
         requires { 0 < F.known feed.old }
-        ensures answered { (f g : Streams) → F.told feed.old ≡ Some f → F.told feed.new ≡ Some g → HasTaken f (taken self.old)
-            → HasTaken g (taken self.new) × IfOk result (Answered (F.faults feed.old, F.calls feed.old) (F.faults feed.new, F.calls feed.new) (taken self.old) (taken self.new) (view_command command) g) }
+        ensures answered { (f g : Streams) → F.told feed.old ≡ Some f → F.told feed.new ≡ Some g → Belongs f self.old
+            → Belongs g self.new × IfOk result (Answered (F.faults feed.old, F.calls feed.old) (F.faults feed.new, F.calls feed.new) (state_of self.old) (state_of self.new) (view_command command) g) }
         ensures feed { FeedGoes (F.told feed.old) (F.told feed.new) (F.known feed.old) (F.known feed.new) (F.faults feed.old, F.calls feed.old) (F.faults feed.new, F.calls feed.new) }
     {
         match command {
-            Command::Pump { count } => self.answer_pump(alloc, count, feed),
-            Command::Scan { at } => self.answer_scan(alloc, at),
+            Command::Schema(text) => line_of(alloc, &self.schema(alloc, text.as_slice())),
+            Command::Retire { table, version } => line_of(alloc, &self.retire(table, version)),
+            Command::Pump { count } => line_of(alloc, &self.take(alloc, count, feed)),
+            Command::Scan { table, version, at } => self.answer_scan(alloc, table, version, at),
         }
+    }
+}
+
+/// The header of stream 0 with all keys.
+fn whole_header(alloc: Global) -> StreamHeader
+    ensures { view_header result ≡ only_header }
+{
+    StreamHeader {
+        stream: 0,
+        range: Range {
+            low: KeyBytes::new(alloc),
+            high: None,
+        },
     }
 }

@@ -1,6 +1,9 @@
 //! Whole runs over objects in memory: worked replies, and each call of an object failing in turn.
 
+mod worked;
+
 use crate::program::run;
+use crate::tests::worked::ROWS;
 use lt_core::{Blob, List};
 use lt_disk::MemDisk;
 use lt_io::{MemFeed, MemSink, MemSource};
@@ -62,14 +65,15 @@ const WORK: Frames<'static> = &[
     CHECKPOINT_11,
 ];
 
-const SCRIPT: &[u8] = b"pump 0 10\nscan t 1 4\nscan t 1 7\nscan t 1 8\n";
+const SCRIPT: &[u8] =
+    b"schema {\"table\":\"t\",\"number\":1,\"version\":1,\"key\":[[\"id\",\"int64\"]],\"columns\":[{\"number\":1,\"name\":\"a\",\"kind\":\"int64\"},{\"number\":2,\"name\":\"b\",\"kind\":\"text\"}]}\npump 0 10\nscan t 1 4\nscan t 1 7\nscan t 1 8\n";
 
 const REPLIES: &[u8] =
-    b"ok pump 0 records 2 offset 84 checkpoint 7 stop End\nok scan 0\nrow [1,10,\"x\"]\nok scan 1\nrefused E13 NotSafe 0 7\n";
+    b"ok schema t 1\nok pump 0 records 2 offset 84 checkpoint 7 stop End\nok scan 0\nrow [1,10,\"x\"]\nok scan 1\nrefused E13 NotSafe 0 7\n";
 
 /// The replies, and the end of a script that fails behind its lines.
 const CUT: &[u8] =
-    b"ok pump 0 records 2 offset 84 checkpoint 7 stop End\nok scan 0\nrow [1,10,\"x\"]\nok scan 1\nrefused E13 NotSafe 0 7\nstopped 3 ScriptFault\n";
+    b"ok schema t 1\nok pump 0 records 2 offset 84 checkpoint 7 stop End\nok scan 0\nrow [1,10,\"x\"]\nok scan 1\nrefused E13 NotSafe 0 7\nstopped 3 ScriptFault\n";
 
 const USAGE: &[u8] = b"usage: lightning init LIMIT | run | gen N\n";
 
@@ -133,17 +137,17 @@ fn worked_runs(rt: HostRuntime) -> Result<(), Fail> {
         (
             run,
             &[&[HEADER]],
-            b"scan t 1 0\npump 0 10\nscan t 1 1\n",
+            b"schema {\"table\":\"t\",\"number\":1,\"version\":1,\"key\":[[\"id\",\"int64\"]],\"columns\":[{\"number\":1,\"name\":\"a\",\"kind\":\"int64\"},{\"number\":2,\"name\":\"b\",\"kind\":\"text\"}]}\nscan t 1 0\npump 0 10\nscan t 1 1\n",
             0,
-            b"ok scan 0\nok pump 0 records 0 offset 18 checkpoint 0 stop End\nrefused E13 NotSafe 0 0\n",
+            b"ok schema t 1\nok scan 0\nok pump 0 records 0 offset 18 checkpoint 0 stop End\nrefused E13 NotSafe 0 0\n",
         ),
         // first_insert
         (
             run,
             &[LOG],
-            b"pump 0 10\nscan t 1 4\nscan t 1 5\nscan t 1 7\nscan t 1 8\n",
+            b"schema {\"table\":\"t\",\"number\":1,\"version\":1,\"key\":[[\"id\",\"int64\"]],\"columns\":[{\"number\":1,\"name\":\"a\",\"kind\":\"int64\"},{\"number\":2,\"name\":\"b\",\"kind\":\"text\"}]}\npump 0 10\nscan t 1 4\nscan t 1 5\nscan t 1 7\nscan t 1 8\n",
             0,
-            b"ok pump 0 records 2 offset 84 checkpoint 7 stop End\nok scan 0\nrow [1,10,\"x\"]\nok scan 1\nrow [1,10,\"x\"]\nok scan 1\nrefused E13 NotSafe 0 7\n",
+            b"ok schema t 1\nok pump 0 records 2 offset 84 checkpoint 7 stop End\nok scan 0\nrow [1,10,\"x\"]\nok scan 1\nrow [1,10,\"x\"]\nok scan 1\nrefused E13 NotSafe 0 7\n",
         ),
         // statuses
         (&["run", "now"], &[LOG], SCRIPT, 2, USAGE),
@@ -156,16 +160,16 @@ fn worked_runs(rt: HostRuntime) -> Result<(), Fail> {
         (
             run,
             &[LOG],
-            b"\n# a comment\npump 1 1\nscan t 1 07\npump 0 1",
+            b"\n# a comment\nschema {\"table\":\"t\",\"number\":1,\"version\":1,\"key\":[[\"id\",\"int64\"]],\"columns\":[{\"number\":1,\"name\":\"a\",\"kind\":\"int64\"},{\"number\":2,\"name\":\"b\",\"kind\":\"text\"}]}\npump 1 1\nscan t 1 07\npump 0 1",
             0,
-            b"refused E1 BadLine\nrefused E1 BadLine\nok pump 0 records 1 offset 71 checkpoint 0 stop Count\n",
+            b"ok schema t 1\nrefused E1 BadLine\nrefused E1 BadLine\nok pump 0 records 1 offset 71 checkpoint 0 stop Count\n",
         ),
         (
             run,
             &[WORK],
-            b"pump 0 99\nscan t 1 5\nscan t 1 6\nscan t 1 8\nscan t 1 11\n",
+            b"schema {\"table\":\"t\",\"number\":1,\"version\":1,\"key\":[[\"id\",\"int64\"]],\"columns\":[{\"number\":1,\"name\":\"a\",\"kind\":\"int64\"},{\"number\":2,\"name\":\"b\",\"kind\":\"text\"}]}\npump 0 99\nscan t 1 5\nscan t 1 6\nscan t 1 8\nscan t 1 11\n",
             0,
-            b"ok pump 0 records 9 offset 369 checkpoint 11 stop End\nrow [1,10,\"x\"]\nok scan 1\nrow [1,-11,\"x\"]\nok scan 1\nok scan 0\nrow [-1,2,\"\"]\nrow [0,1,null]\nrow [5,null,\"a\\\"b\\n\"]\nok scan 3\n",
+            b"ok schema t 1\nok pump 0 records 9 offset 369 checkpoint 11 stop End\nrow [1,10,\"x\"]\nok scan 1\nrow [1,-11,\"x\"]\nok scan 1\nok scan 0\nrow [-1,2,\"\"]\nrow [0,1,null]\nrow [5,null,\"a\\\"b\\n\"]\nok scan 3\n",
         ),
     ];
     for (row, (words, streams, script, status, text)) in runs.into_iter().enumerate() {
@@ -183,6 +187,19 @@ fn worked_runs(rt: HostRuntime) -> Result<(), Fail> {
 }
 
 #[test]
+fn worked_tables(rt: HostRuntime) -> Result<(), Fail> {
+    for (row, (stream, script, text)) in ROWS.into_iter().enumerate() {
+        let given = Given {
+            words: &["run"],
+            streams: &[&[stream]],
+            script,
+        };
+        assert!(rt; ends_so(rt, &given, [&[], &[], &[]], 0, text)?, "row {row}");
+    }
+    Ok(())
+}
+
+#[test]
 fn each_call_fails_in_turn(rt: HostRuntime) -> Result<(), Fail> {
     // The feed is asked for its streams and for the header, and then read twice by the pump.
     let rows: [(&str, &[u8], [&[u64]; 3], u8, &[u8]); 10] = [
@@ -190,17 +207,17 @@ fn each_call_fails_in_turn(rt: HostRuntime) -> Result<(), Fail> {
         ("run", SCRIPT, [&[2], &[], &[]], 7, b"stopped 7 FeedFault\n"),
         (
             "run",
-            b"pump 0 10\npump 0 10\n",
+            b"schema {\"table\":\"t\",\"number\":1,\"version\":1,\"key\":[[\"id\",\"int64\"]],\"columns\":[{\"number\":1,\"name\":\"a\",\"kind\":\"int64\"},{\"number\":2,\"name\":\"b\",\"kind\":\"text\"}]}\npump 0 10\npump 0 10\n",
             [&[3], &[], &[]],
             0,
-            b"refused E23 FeedFault\nok pump 0 records 2 offset 84 checkpoint 7 stop End\n",
+            b"ok schema t 1\nrefused E23 FeedFault\nok pump 0 records 2 offset 84 checkpoint 7 stop End\n",
         ),
         (
             "run",
-            b"pump 0 10\npump 0 10\n",
+            b"schema {\"table\":\"t\",\"number\":1,\"version\":1,\"key\":[[\"id\",\"int64\"]],\"columns\":[{\"number\":1,\"name\":\"a\",\"kind\":\"int64\"},{\"number\":2,\"name\":\"b\",\"kind\":\"text\"}]}\npump 0 10\npump 0 10\n",
             [&[4], &[], &[]],
             0,
-            b"refused E23 FeedFault\nok pump 0 records 0 offset 84 checkpoint 7 stop End\n",
+            b"ok schema t 1\nrefused E23 FeedFault\nok pump 0 records 0 offset 84 checkpoint 7 stop End\n",
         ),
         (
             "run",
@@ -237,7 +254,7 @@ fn long_lines_and_bytes_that_are_no_text(rt: HostRuntime) -> Result<(), Fail> {
         script.push(b'\n')?;
     }
     script.extend_from_slice(b"#\xff\nscan t 1 1")?;
-    let text = b"refused E1 BadLine\nrefused E1 BadLine\nrefused E13 NotSafe 0 0\n";
+    let text = b"refused E1 BadLine\nrefused E1 BadLine\nrefused E3 UnknownTable \"t\"\n";
     let given = Given {
         words: &["run"],
         streams: &[LOG],

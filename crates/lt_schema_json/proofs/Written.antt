@@ -53,7 +53,7 @@ mutual
   fields_plain (field_kind n name k ks) = neither (neither (kind_plain k) refl) (fields_plain ks)
 
 mutual
-  value_plain : (v : Value) → has_float (plain_data v) ≡ false
+  pub value_plain : (v : Value) → has_float (plain_data v) ≡ false
   value_plain null_value = refl
   value_plain (bool_value b) = refl
   value_plain (int_value z) = no_float_number z

@@ -16,7 +16,7 @@ mod writing;
 pub use lt_model::Field;
 pub use reading::read_version;
 pub use refusal::JsonRefusal;
-pub use writing::write_version;
+pub use writing::{value_json, write_version};
 
 #[cfg(test)]
 mod tests;

@@ -10,7 +10,7 @@ mod kind;
 mod value;
 
 use crate::writing::kind::kind_json;
-use crate::writing::value::value_json;
+pub use crate::writing::value::value_json;
 use lt_core::{Blob, KeyKind, List, Memory};
 use lt_schema::{Column, Columns, KeyColumn, KeyColumns, SchemaVersion};
 use serde_json::{Map, Value as Json, json, put};

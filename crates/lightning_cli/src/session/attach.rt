@@ -4,7 +4,7 @@
 
 ghost use Rattle.std.specs.Prelude.{◌≡◌, ◌<◌, ◌≤◌, ◌↔◌, ℕ, List, IfOk, IfSome, IsErrOf, OnErr, OnOk, length, true};
 ghost use Rattle.lt_model.specs.Disk.{Rose};
-ghost use Rattle.lt_model.specs.OneTable.{IsOneStream};
+ghost use Rattle.lt_model.specs.OneStream.{IsOneStream};
 ghost use Rattle.lightning_cli.specs.Pumps.{IsAhead, Matches};
 ghost use Rattle.lightning_cli.specs.Sessions.{FeedGoes};
 ghost use Rattle.lightning_cli.specs.declared.session.AttachRefusal.TheVariants as refusals;

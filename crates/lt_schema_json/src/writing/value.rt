@@ -1,4 +1,4 @@
-//! Defaults as JSON.
+//! Values as JSON.
 
 ghost use Rattle.std.specs.Prelude.{◌≡◌, ◌<◌, IfOk, string_bytes};
 ghost use Rattle.serde_json.specs.Data.{array};
@@ -11,6 +11,8 @@ use lt_core::{Blob, Fields, Memory, Value};
 use serde_json::Value as Json;
 use std::alloc::Global;
 
+/// A value as JSON, an enum's by its number: bytes as a text of `0x` and lower-case pairs of hexadecimal digits, a struct as the array
+/// of its fields' values.
 #[cycle(value)]
 pub fn value_json(alloc: Global, value: &Value) -> Result<Json, Memory>
     ensures { IfOk result (λ json. view json ≡ plain_data (view_value value.now)) }

@@ -2,7 +2,7 @@ use Rattle.std.proofs.Common.{◌∙◌, ◌++◌, ◌≤◌, arith, ap, map, re
 use Rattle.std.specs.Prelude.{IfSome, codes}
 use Rattle.lt_model.specs.Disk.{Rose}
 use Rattle.lt_model.specs.Run.{start_feed, start_mismatch}
-use Rattle.lt_model.specs.OneTable.{Did, IsOneStream}
+use Rattle.lt_model.specs.OneStream.{Did, HasTaken, IsOneStream}
 use Rattle.lightning_cli.specs.Sessions.{feed_counts}
 use Rattle.lightning_cli.proofs.FeedLaws.{goes_itself, goes_then, told_grew, told_on}
 use Rattle.lightning_cli.proofs.OutLaws.{appended, by_finish, told_same}
@@ -31,7 +31,7 @@ returns-in-Ok-clause-did g c old new tells tells' =
     let asked = sym c.asks_run.ensures ∙ c.if-not-asks_run.false in
     let attached = c.attach.ensures.feed in
     let f = told_on _ _ old.feed attached.stays tells.feed in
-    let one = subst (λ x. IfSome x IsOneStream) f.1 c.in-Ok.ensures.ok.2 in
+    let one = subst (λ x. IfSome x IsOneStream) f.1 c.in-Ok.ensures.ok.3 in
     let calls = g.F.Feed.calls c.attach.new.feed in
     let later : old.counts.calls ≤ calls = omega (arith, attached.later.1, ap (λ n. n.calls) tells.counts) in
     ran_did words old new f.0 calls asked (told_grew _ _ old.feed f.0 tells.feed f.1 attached.grows) later one
@@ -43,7 +43,7 @@ returns-in-Ok-clause-did g c old new tells tells' =
       writes = sym (ap (λ n. n.writes) tells'.counts) ∙ ap (λ n. n.writes) tells.counts;
       clock = sym (ap (λ n. n.clock) tells'.counts) ∙ ap (λ n. n.clock) tells.counts;
     })
-    (none_taken f.0 one))
+    (subst (λ items. HasTaken f.0 c.in-Ok.session.catalogue items) (sym c.in-Ok.ensures.ok.1) (none_taken f.0 c.in-Ok.session.catalogue one)))
 
 pub returns-in-Err-Mismatch-clause-did : goal.returns-in-Err-Mismatch-clause-did
 returns-in-Err-Mismatch-clause-did g c old new tells tells' =
@@ -74,7 +74,7 @@ returns-in-Err-Memory-clause-did g c old new tells tells' =
     lacked_did (map (λ w. string_bytes w) c.args.words.now) old new (sym c.asks_run.ensures ∙ c.if-not-asks_run.false) (told_same _ old.script new.script tells.script tells'.script) (told_same _ old.written new.written tells.written tells'.written)
 
 pub returns-in-Ok-clause-memory : goal.returns-in-Ok-clause-memory
-returns-in-Ok-clause-memory g c e = one_stays _ _ c.serve.ensures.feed.stays c.serve.ensures.feed.grows c.in-Ok.ensures.ok.2
+returns-in-Ok-clause-memory g c e = one_stays _ _ c.serve.ensures.feed.stays c.serve.ensures.feed.grows c.in-Ok.ensures.ok.3
 
 pub returns-in-Err-Memory-clause-memory : goal.returns-in-Err-Memory-clause-memory
 returns-in-Err-Memory-clause-memory g c e = absurd (c.attach.ensures.no_memory (c.in-Err-Memory.is ∙ ap Err c.in-Err-Memory.field-0-is))

@@ -1,6 +1,5 @@
-use Rattle.std.proofs.Common.{sym, ap, ◌∙◌, arith, inl, inr, refl}
+use Rattle.std.proofs.Common.{sym, ◌∙◌, arith, inl, inr, refl}
 use Rattle.lt_model.specs.Program.{Told}
-use Rattle.lightning_cli.specs.Sessions.{taken}
 use Rattle.lightning_cli.proofs.FeedLaws.{goes_itself, goes_then, told_on}
 use Rattle.lightning_cli.proofs.OutLaws.{fails_from, gone_then, none_gone, out_goes, over_gone, out_goes_then, tells_on, told_same}
 use Rattle.lightning_cli.proofs.ServeLaws.{begins, serving_to}
@@ -19,8 +18,8 @@ loop-init g c = record {
   unstopped = (refl, refl);
   serving = λ old now seen seen' has.
       let told = told_same _ old.feed now.feed seen.feed seen'.feed in
-      serving_to (sym (ap taken c.new-server.ensures.session ∙ c.requires.fresh)) (sym c.new-server.ensures.replies) (sym c.new-server.ensures.line)
-      (begins old now told (told_same _ old.script now.script seen.script seen'.script) (told_same _ old.written now.written seen.written seen'.written) (sym seen'.counted ∙ seen.counted) (sym seen'.out ∙ seen.out) (sym seen'.read ∙ seen.read) has);
+      serving_to (sym c.new-server.ensures.session) (sym c.new-server.ensures.replies) (sym c.new-server.ensures.line)
+      (begins old now c.args.session c.requires.fresh told (told_same _ old.script now.script seen.script seen'.script) (told_same _ old.written now.written seen.written seen'.written) (sym seen'.counted ∙ seen.counted) (sym seen'.out ∙ seen.out) (sym seen'.read ∙ seen.read) has);
 }
 
 pub loop-preserved : goal.loop-preserved
@@ -68,3 +67,6 @@ returns-in-Over-clause-out_stops g c e = fails_from _ _ _ _ c.loop.invariant.uns
 
 pub returns-in-Over-clause-too_long : goal.returns-in-Over-clause-too_long
 returns-in-Over-clause-too_long g c e = over_gone _ _ _ c.loop.invariant.script.stays c.loop.invariant.left (c.in-Over.ensures.too_long e)
+
+pub returns-in-Over-clause-statuses : goal.returns-in-Over-clause-statuses
+returns-in-Over-clause-statuses g c = c.in-Over.ensures.statuses

@@ -1,8 +1,7 @@
 use Rattle.std.proofs.Common.{◌≡◌, ◌≤◌, ◌^◌, []}
-use Rattle.lt_model.specs.OneTable.{HasTaken}
 use Rattle.lt_model.specs.Program.{Told}
 use Rattle.lightning_cli.specs.Serving.{Goes, IsServing, IsTaken, Sees}
-use Rattle.lightning_cli.specs.Sessions.{FeedGoes, taken}
+use Rattle.lightning_cli.specs.Sessions.{Belongs, FeedGoes}
 use Rattle.lightning_cli.proofs.serve.serve.Given as goal
 
 abbrev pub invariant-loop : goal.invariant-loop
@@ -22,5 +21,5 @@ invariant-loop g l =
       unstopped : (K.failed_at l.out ≡ K.failed_at l.fn.out) × (S.failed_at l.script ≡ S.failed_at l.fn.script);
       serving : (old now : Told) → Sees (F.told l.fn.feed) (S.left l.fn.script) (K.held l.fn.out) (F.faults l.fn.feed, F.calls l.fn.feed) (K.faults l.fn.out) (S.faults l.fn.script) old
           → Sees (F.told l.feed) (S.left l.script) (K.held l.out) (F.faults l.feed, F.calls l.feed) (K.faults l.out) (S.faults l.script) now
-          → HasTaken old.feed [] → IsServing old now l.count (taken l.server.session) l.server.replies.items l.server.line.items;
+          → Belongs old.feed l.fn.session → IsServing old now l.count l.server.session l.server.replies.items l.server.line.items;
     }

@@ -1,7 +1,7 @@
 use Rattle.std.proofs.Common.{sym, ap, ◌∙◌, ◌++◌}
-use Rattle.lt_model.specs.OneTable.{line_read}
-use Rattle.lightning_cli.specs.Lines.{view_line}
-use Rattle.lightning_cli.proofs.LineLaws.{kept_reads}
+use Rattle.lt_model.specs.OneStream.{line_read}
+use Rattle.lt_script.specs.Lines.{view_line}
+use Rattle.lt_script.proofs.LineLaws.{kept_reads}
 use Rattle.lightning_cli.proofs.FeedLaws.{goes_itself, told_grew}
 use Rattle.lightning_cli.proofs.RunLaws.{bad_runs, command_runs, same_told, skipped_runs}
 use Rattle.lightning_cli.proofs.server.Server.answer.Goals as goal

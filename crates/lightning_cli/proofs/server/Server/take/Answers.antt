@@ -1,5 +1,4 @@
 use Rattle.std.proofs.Common.{sym, ap, refl, [], ◌∙◌, ◌++◌, ◌+◌, take, append-nil, append_assoc, take-suc, take_all, add-one}
-use Rattle.lightning_cli.specs.Sessions.{taken}
 use Rattle.lt_laws.proofs.FrontLaws.{grows_itself}
 use Rattle.lightning_cli.proofs.FeedLaws.{goes_itself, goes_then, told_grew, told_on}
 use Rattle.lightning_cli.proofs.RunLaws.{front_of_bytes, has_run_front, has_run_some, same_stands, stands_at, stands_to}
@@ -32,7 +31,7 @@ loop-byte-preserved g c =
           let t = b.ok mid.0 h f0 n0 _ (written ++ p.0) mid.1 new p.2 in
           let at = stands_at _ _ (append_assoc before (take c.loop-byte.byte-index c.args.bytes.now) _ ∙ ap (λ x. before ++ x) (sym (take-suc c.args.bytes.now c.loop-byte.byte-index 0 c.loop-byte-test.true) ∙ ap (λ n. take n c.args.bytes.now) (sym (add-one c.loop-byte.byte-index)))) t in
           let q = w.some in
-          (p.0 ++ q.0, appends_then _ _ _ p.0 q.0 p.1 q.1, stands_written (append_assoc written p.0 q.0) (stands_to (ap taken (sym w.rest.0)) (sym w.rest.1) (flushed_some q.0 _ q.2 at)));
+          (p.0 ++ q.0, appends_then _ _ _ p.0 q.0 p.1 q.1, stands_written (append_assoc written p.0 q.0) (stands_to (sym w.rest.0) (sym w.rest.1) (flushed_some q.0 _ q.2 at)));
     }
 
 pub returns-in_err-take_byte-clause-feed : goal.returns-in_err-take_byte-clause-feed
@@ -74,4 +73,4 @@ returns-clause-taken g c f h f0 n0 before written old new s =
     let p = i.stands f h f0 n0 before written old new s in
     let replies = c.loop-byte.self.replies.items in
     let all = stands_at _ _ (ap (λ x. before ++ x) (take_all c.loop-byte.byte-index c.args.bytes.now c.loop-byte-test.false)) p.2 in
-    (p.0 ++ replies, appends_then _ _ _ p.0 replies p.1 w.all.0, stands_written (append_assoc written p.0 replies) (stands_to (ap taken (sym w.rest.0)) (sym w.rest.1) (flushed [] refl all)))
+    (p.0 ++ replies, appends_then _ _ _ p.0 replies p.1 w.all.0, stands_written (append_assoc written p.0 replies) (stands_to (sym w.rest.0) (sym w.rest.1) (flushed [] refl all)))

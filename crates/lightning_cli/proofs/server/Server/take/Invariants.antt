@@ -4,7 +4,7 @@ use Rattle.std.specs.Io.KnownBytes.{Appends}
 use Rattle.lt_model.specs.Fair.{Feed}
 use Rattle.lt_model.specs.Run.{Counts}
 use Rattle.lightning_cli.specs.Serving.{Goes, Stands}
-use Rattle.lightning_cli.specs.Sessions.{FeedGoes, taken}
+use Rattle.lightning_cli.specs.Sessions.{FeedGoes}
 use Rattle.lightning_cli.proofs.server.Server.take.Given as goal
 
 abbrev pub invariant-loop-byte : goal.invariant-loop-byte
@@ -16,7 +16,7 @@ invariant-loop-byte g l =
       out : Goes (K.held l.fn.out) (K.held l.out) (K.faults l.fn.out) (K.faults l.out);
       unfailed : (K.faults l.out ≡ K.faults l.fn.out) × (K.failed_at l.out ≡ K.failed_at l.fn.out);
       stands : (f h f0 : Feed) (n0 : Counts) (before written : List ℕ) → F.told l.fn.feed ≡ Some f → F.told l.feed ≡ Some h
-          → Stands f0 n0 before written f (F.faults l.fn.feed, F.calls l.fn.feed) (taken l.fn.self.session) l.fn.self.replies.items l.fn.self.line.items
+          → Stands f0 n0 before written f (F.faults l.fn.feed, F.calls l.fn.feed) l.fn.self.session l.fn.self.replies.items l.fn.self.line.items
           → (more : List ℕ) × Appends (K.held l.fn.out) (K.held l.out) more
-          × Stands f0 n0 (before ++ take l.byte-index l.bytes) (written ++ more) h (F.faults l.feed, F.calls l.feed) (taken l.self.session) l.self.replies.items l.self.line.items;
+          × Stands f0 n0 (before ++ take l.byte-index l.bytes) (written ++ more) h (F.faults l.feed, F.calls l.feed) l.self.session l.self.replies.items l.self.line.items;
     }

@@ -1,0 +1,3 @@
+pub mod RowKinds
+pub mod Shown
+pub mod Words

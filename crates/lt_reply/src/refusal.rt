@@ -1,0 +1,44 @@
+//! Refusals, with the values that they keep.
+
+ghost use Rattle.std.specs.Prelude.{◌≡◌};
+ghost use Rattle.lt_reply.specs.declared.refusal.Refusal.TheVariants as refusals;
+
+use lt_core::{Memory, Text, Ts};
+use lt_schema::SchemaRefusal;
+use lt_schema_json::JsonRefusal;
+
+/// Why a schema is refused. Want of memory is no cause: it is a refusal of its own.
+#[derive(Debug, Drop)]
+pub enum Cause {
+    /// The text is no schema version.
+    Json(JsonRefusal),
+    /// The catalogue refuses the version.
+    Version(SchemaRefusal),
+}
+
+/// Why a command is refused.
+#[derive(Debug, Drop)]
+pub enum Refusal {
+    /// The store's generation or its next delta id is the greatest, and the command writes.
+    Worn,
+    UnknownTable { name: Text },
+    UnknownVersion { version: u32 },
+    Retired { version: u32 },
+    /// The latest version stays live.
+    LastVersion { version: u32 },
+    BadSchema { cause: Cause },
+    NoStream { stream: u32 },
+    /// The first partition of the query with a checkpoint below the timestamp, and that checkpoint.
+    NotSafe { part: u32, checkpoint: Ts },
+    /// A call of the feed failed in this command.
+    FeedFault,
+    Memory,
+}
+
+impl From<Memory> for Refusal {
+    ghost from_gives = { λ _ e. e ≡ refusals.Memory };
+
+    fn from(_: Memory) -> Self {
+        Refusal::Memory
+    }
+}

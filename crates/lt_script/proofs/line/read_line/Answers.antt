@@ -1,0 +1,29 @@
+use Rattle.std.proofs.Common.{sym, ap, ◌∙◌}
+use Rattle.std.specs.Prelude.{option_map}
+use Rattle.lt_core.proofs.Utf8.{utf8_false, utf8_true}
+use Rattle.lt_script.specs.Lines.{command_read, view_command}
+use Rattle.lt_script.proofs.LineLaws.{comment_line, empty_line, long_line, no_text_line, plain_line}
+use Rattle.lt_script.proofs.line.read_line.Goals as goal
+
+pub returns-then-line-gt-MAX_LINE : goal.returns-then-line-gt-MAX_LINE
+returns-then-line-gt-MAX_LINE c = sym (long_line c.args.line.now c.if-line-gt-MAX_LINE.true)
+
+pub returns-in_default : goal.returns-in_default
+returns-in_default c = sym (no_text_line c.args.line.now (utf8_false c.args.line.now c.in_default.ensures.cases.0))
+
+pub returns-in_default-first : goal.returns-in_default-first
+returns-in_default-first c = sym (empty_line c.args.line.now c.if-line-gt-MAX_LINE.false (utf8_true c.args.line.now c.in-Ok.ensures.cases.1) c.in_default-first.ensures.value)
+
+pub returns-then-first-eq-HASH : goal.returns-then-first-eq-HASH
+returns-then-first-eq-HASH c =
+    sym (comment_line c.args.line.now c.if-line-gt-MAX_LINE.false (utf8_true c.args.line.now c.in-Ok.ensures.cases.1) c.in-Some.first.now c.in-Some.ensures.value c.if-first-eq-HASH.true)
+
+pub returns-in-Some-2 : goal.returns-in-Some-2
+returns-in-Some-2 c =
+    plain_line c.args.line.now c.if-line-gt-MAX_LINE.false (utf8_true c.args.line.now c.in-Ok.ensures.cases.1) c.in-Some.first.now c.in-Some.ensures.value c.if-first-eq-HASH.false
+    _ (ap (option_map view_command) (sym c.in-Some-2.is) ∙ c.in_ok-command.ensures ∙ ap command_read c.in-Ok.ensures.cases.0)
+
+pub returns-in-None : goal.returns-in-None
+returns-in-None c =
+    plain_line c.args.line.now c.if-line-gt-MAX_LINE.false (utf8_true c.args.line.now c.in-Ok.ensures.cases.1) c.in-Some.first.now c.in-Some.ensures.value c.if-first-eq-HASH.false
+    _ (ap (option_map view_command) (sym c.in-None.is) ∙ c.in_ok-command.ensures ∙ ap command_read c.in-Ok.ensures.cases.0)

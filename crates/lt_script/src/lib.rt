@@ -1,0 +1,11 @@
+//! Script lines: the command that a line spells, where it is one that is answered. Reading a line takes time by its length.
+#![tactic(auto)]
+
+mod command;
+mod line;
+#[cfg(test)]
+mod tests;
+mod words;
+
+pub use command::Command;
+pub use line::{Line, MAX_LINE, read_line};

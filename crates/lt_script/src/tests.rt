@@ -1,0 +1,149 @@
+//! What no clause shows: worked lines, and that calls succeed where there is memory.
+
+use super::*;
+use std::alloc::Global;
+use std::test::Fail;
+
+/// What was read of a line: its command, written as a line, or that there is none.
+fn told(alloc: Global, line: &[u8]) -> Result<String, Fail> {
+    let told = match read_line(alloc, line)? {
+        Line::Skipped => format!(in alloc; "skipped")?,
+        Line::Bad => format!(in alloc; "bad")?,
+        Line::Command(Command::Schema(text)) => {
+            let text = str::from_utf8(text.as_slice())?;
+            format!(in alloc; "schema {text}")?
+        }
+        Line::Command(Command::Retire { table, version }) => {
+            format!(in alloc; "retire {table} {version}")?
+        }
+        Line::Command(Command::Pump { count }) => format!(in alloc; "pump 0 {count}")?,
+        Line::Command(Command::Scan { table, version, at }) => {
+            format!(in alloc; "scan {table} {version} {at}")?
+        }
+    };
+    Ok(told)
+}
+
+#[test]
+fn a_line_of_a_form_is_that_command(rt: HostRuntime) -> Result<(), Fail> {
+    let rows = [
+        "schema x",
+        "schema {\"table\": \"t\", \"columns\": []}",
+        "schema  two spaces and one behind ",
+        "schema #",
+        "retire t 1",
+        "retire t 0",
+        "retire #\t\"ü 4294967295",
+        "retire aaaaaaaaaaaaaaaaaaaaaaaaaaaaaaaaaaaaaaaaaaaaaaaaaaaaaaaaaaaaaaaa 7",
+        "pump 0 1",
+        "pump 0 10",
+        "pump 0 4294967295",
+        "scan t 1 0",
+        "scan scan 4294967295 18446744073709551615",
+        "scan aaaaaaaaaaaaaaaaaaaaaaaaaaaaaaaaaaaaaaaaaaaaaaaaaaaaaaaaaaaaaaaa 0 5",
+    ];
+    for row in rows {
+        let told = told(rt.alloc(), row.as_bytes())?;
+        assert_eq!(rt; told.as_str(), row);
+    }
+    Ok(())
+}
+
+#[test]
+fn any_other_line_is_bad(rt: HostRuntime) -> Result<(), Fail> {
+    let rows: [&[u8]; 57] = [
+        b" ",
+        b" # no comment",
+        b"#\xff",
+        b"help",
+        b"schema",
+        b"schema ",
+        b" schema x",
+        b"Schema x",
+        b"schema\tx",
+        b"schema \xff",
+        b"retire",
+        b"retire ",
+        b"retire t",
+        b"retire t ",
+        b"retire  1",
+        b"retire t  1",
+        b"retire t 1 ",
+        b"retire t 1 2",
+        b"retire t 01",
+        b"retire t -1",
+        b"retire t +1",
+        b"retire t x",
+        b"retire t 4294967296",
+        b"retire aaaaaaaaaaaaaaaaaaaaaaaaaaaaaaaaaaaaaaaaaaaaaaaaaaaaaaaaaaaaaaaaa 1",
+        b"pump",
+        b"pump 0",
+        b"pump 0 ",
+        b"pump 1 1",
+        b"pump 00 1",
+        b"pump x 1",
+        b"pump 0 0",
+        b"pump 0 01",
+        b"pump 0 4294967296",
+        b"pump 0 1 ",
+        b"pump 0  1",
+        b"pump  0 1",
+        b" pump 0 1",
+        b"pump\t0 1",
+        b"pump 0 1\r",
+        b"pump 0 1 1",
+        b"scan",
+        b"scan t",
+        b"scan t 1",
+        b"scan t 1 ",
+        b"scan  1 5",
+        b"scan t 01 5",
+        b"scan t 4294967296 5",
+        b"scan t 1 05",
+        b"scan t 1 -5",
+        b"scan t 1 18446744073709551616",
+        b"scan t 1 5 ",
+        b"scan t 1 5 {}",
+        b"scan aaaaaaaaaaaaaaaaaaaaaaaaaaaaaaaaaaaaaaaaaaaaaaaaaaaaaaaaaaaaaaaaa 1 5",
+        b"page t 1 5 1",
+        b"flush 0",
+        b"status",
+        b"reopen",
+    ];
+    for (row, line) in rows.iter().enumerate() {
+        let told = told(rt.alloc(), line)?;
+        assert_eq!(rt; told.as_str(), "bad", "at row {row}");
+    }
+    Ok(())
+}
+
+#[test]
+fn empty_lines_and_comments_are_skipped(rt: HostRuntime) -> Result<(), Fail> {
+    let rows: [&[u8]; 4] = [b"", b"#", b"# pump 0 1", b"#schema x"];
+    for (row, line) in rows.iter().enumerate() {
+        let told = told(rt.alloc(), line)?;
+        assert_eq!(rt; told.as_str(), "skipped", "at row {row}");
+    }
+    Ok(())
+}
+
+#[test]
+fn a_longer_line_is_bad(rt: HostRuntime) -> Result<(), Fail> {
+    let rows: [(&[u8], usize, &str); 4] = [
+        (b"#", 1048576, "skipped"),
+        (b"#", 1048577, "bad"),
+        (b"scan t 1 1", 1048577, "bad"),
+        (b"schema ", 1048577, "bad"),
+    ];
+    for (front, length, want) in rows {
+        let mut line = front.to_vec(rt.alloc())?;
+        line.resize(length, b'1')?;
+        let told = told(rt.alloc(), line.as_slice())?;
+        assert_eq!(rt; told.as_str(), want, "of {length} bytes");
+    }
+    let mut line = b"schema ".to_vec(rt.alloc())?;
+    line.resize(1048576, b' ')?;
+    let told = told(rt.alloc(), line.as_slice())?;
+    assert!(rt; told.as_bytes() == line.as_slice());
+    Ok(())
+}
