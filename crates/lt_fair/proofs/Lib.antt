@@ -1,3 +1,4 @@
 pub mod FirstVersions
 pub mod FaultParts
 pub mod WindowLaws
+pub mod AboveLaws

@@ -26,7 +26,7 @@ view_point p = record { checkpoint = p.checkpoint; greatest = p.greatest; window
 -- keys with their timestamps, in either form
 abbrev pub view_kept : Kept → List (List ℕ × ℕ)
 view_kept (kept.Listed window) = window.items
-view_kept (kept.Mapped window) = window.entries
+view_kept (kept.Mapped window) = window
 
 -- the header of the stream that is checked
 abbrev pub header_of : Checker → log.Header

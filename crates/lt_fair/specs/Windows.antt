@@ -1,5 +1,5 @@
 -- Places in a list of keys with timestamps.
-use Rattle.std.specs.Prelude.{Bool, List, Some, false, length, slice_get, take, true, ℕ, ◌≡◌, ◌≤◌}
+use Rattle.std.specs.Prelude.{Bool, List, None, Option, Some, false, filter, length, nat_lt, slice_get, take, true, ℕ, ◌≡◌, ◌≤◌}
 use Rattle.std.specs.List.{AllByRecursion}
 use Rattle.std.specs.Option.{option_map_or}
 use Rattle.lt_model.specs.Key.{below, same_key}
@@ -17,3 +17,12 @@ pub record IsPutPlace (key : List ℕ) (ws : List (List ℕ × ℕ)) (at : ℕ) 
 -- the key stands at the place
 abbrev pub stands_at : List ℕ → List (List ℕ × ℕ) → ℕ → Bool
 stands_at key ws at = option_map_or (λ w. same_key w.0 key) (slice_get ws at) false
+
+-- whether a timestamp is above the bound, if there is one
+abbrev pub is_above : Option ℕ → ℕ → Bool
+is_above None ts = true
+is_above (Some bound) ts = nat_lt bound ts
+
+-- the keys whose timestamp is above the bound
+abbrev pub keys_above : Option ℕ → List (List ℕ × ℕ) → List (List ℕ × ℕ)
+keys_above bound ws = filter (λ w. is_above bound w.1) ws

@@ -1,6 +1,8 @@
-//! What a check keeps of the records that were taken.
+//! What a check keeps of the records that were taken. Copying it takes time linear in its keys.
 
-use lt_core::{KeyBytes, List, Ts};
+ghost use Rattle.std.specs.Prelude.{◌≡◌, IfOk};
+
+use lt_core::{KeyBytes, List, Memory, Ts};
 
 /// Keys, each with the timestamp of its last change. Those of a check rise.
 pub type Window = List<(KeyBytes, Ts)>;
@@ -14,4 +16,17 @@ pub struct Point {
     pub greatest: Ts,
     /// The keys with a change above the checkpoint.
     pub window: Window,
+}
+
+impl Point {
+    /// A copy equals what it copies.
+    pub fn copy(&self) -> Result<Point, Memory>
+        ensures { IfOk result (λ point. point ≡ self.now) }
+    {
+        Ok(Point {
+            checkpoint: self.checkpoint,
+            greatest: self.greatest,
+            window: self.window.copy()?,
+        })
+    }
 }

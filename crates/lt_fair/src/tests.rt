@@ -272,7 +272,7 @@ fn every_cut_goes_on(rt: HostRuntime) -> Result<(), Fail> {
         let (front, rest) = FAIR.split_at(cut);
         let mut first = Checker::new(header(alloc)?);
         assert!(rt; take_all(alloc, &mut first, front)?.is_none());
-        let mut second = Checker::at(header(alloc)?, first.point()?);
+        let mut second = Checker::at(header(alloc)?, first.point()?.copy()?);
         assert!(rt; take_all(alloc, &mut second, rest)?.is_none());
         let point = second.point()?;
         assert!(rt; point.checkpoint == 6 && point.greatest == 9, "cut {cut}");
@@ -280,6 +280,41 @@ fn every_cut_goes_on(rt: HostRuntime) -> Result<(), Fail> {
             timestamps(&point)?.as_slice() == [8, 7, 9].as_slice(),
             "cut {cut}"
         );
+    }
+    Ok(())
+}
+
+/// The timestamps where the keys below this one of 100 were put back, and those above it still stand.
+fn put_back_below(alloc: Global, key: u64) -> Result<Vec<Ts>, Memory> {
+    let mut all = Vec::new(alloc);
+    for below in 1..key {
+        all.push(below.saturating_add(300))?;
+    }
+    for other in key..100 {
+        all.push(other + 101)?;
+    }
+    Ok(all)
+}
+
+/// The keys 1 to 100 stand at 101 to 200. Each checkpoint lets one of them go, and a change puts it back.
+#[test]
+fn many_checkpoints(rt: HostRuntime) -> Result<(), Fail> {
+    let alloc = rt.alloc();
+    let mut checker = Checker::new(header(alloc)?);
+    for key in 1..=100u64 {
+        let insert = Item::Insert(key + 100, key as i64);
+        assert!(rt; take_all(alloc, &mut checker, &[insert])?.is_none());
+    }
+    for key in 1..=100u64 {
+        let checkpoint = Item::Checkpoint(key + 100);
+        assert!(rt; take_all(alloc, &mut checker, &[checkpoint])?.is_none());
+        let expected = put_back_below(alloc, key)?;
+        assert!(rt;
+            timestamps(&checker.point()?)?.as_slice() == expected.as_slice(),
+            "key {key}"
+        );
+        let update = Item::Update(key + 300, key as i64);
+        assert!(rt; take_all(alloc, &mut checker, &[update])?.is_none());
     }
     Ok(())
 }

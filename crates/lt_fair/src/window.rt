@@ -1,8 +1,8 @@
 //! The keys with a change above the checkpoint, each with its last timestamp.
 //!
-//! They stand in a map, so that a look-up and a change cost a logarithm. A point that is handed in is a list, and stays one
-//! until a key is put: if its keys rise, it then goes into a map, once. Another list stays a list, which is gone over at
-//! each call; no check makes one.
+//! They stand in a map, so that a look-up and a change cost a logarithm, and a checkpoint, prunings aside, a constant. A point that
+//! is handed in is a list, and stays one until a key is put: if its keys rise, it then goes into a map, once. A list is gone over
+//! at each call. One whose keys do not rise, which no check makes, stays a list.
 
 ghost use Rattle.std.specs.Prelude.{◌≡◌, ◌<◌, [], filter, length, nat_lt, IfOk, IfSome, IsTrue, OnErr, OnOk};
 ghost use Rattle.lt_model.specs.Key.{below};
@@ -10,22 +10,23 @@ ghost use Rattle.lt_model.specs.Fair.{put_key, window_ts};
 ghost use Rattle.lt_fair.specs.View.{view_kept};
 ghost use Rattle.lt_fair.specs.Windows.{AllBelow, IsPutPlace, stands_at};
 
+use crate::above::KeysAbove;
 use crate::point::Window;
-use lt_core::{KeyBytes, List, ListItem, Memory, Ts};
+use lt_core::{KeyBytes, ListItem, Memory, Ts};
 use std::alloc::Global;
 use std::collections::BTreeMap;
 
 #[derive(Debug, Drop)]
 pub enum Kept {
     Listed(Vec<(KeyBytes, Ts)>),
-    Mapped(BTreeMap<KeyBytes, Ts>),
+    Mapped(KeysAbove),
 }
 
 impl Kept {
     pub fn new(alloc: Global) -> Kept
         ensures { view_kept result ≡ [] }
     {
-        Kept::Mapped(BTreeMap::new(alloc))
+        Kept::Mapped(KeysAbove::new(alloc))
     }
 
     /// The last timestamp of a key, or 0.
@@ -34,7 +35,7 @@ impl Kept {
     {
         match self {
             Kept::Listed(list) => last_in(list, key),
-            Kept::Mapped(map) => map.get(key).copied().unwrap_or(0),
+            Kept::Mapped(keys) => keys.last_of(key),
         }
     }
 
@@ -44,12 +45,13 @@ impl Kept {
         ensures err { OnErr result (view_kept self.new ≡ view_kept self.old) }
     {
         match self {
-            Kept::Mapped(map) => put_mapped(map, key, ts),
+            Kept::Mapped(keys) => keys.put(key, ts),
             Kept::Listed(list) => match mapped(list)? {
                 None => put_listed(list, key, ts),
-                Some(mut map) => {
-                    put_mapped(&mut map, key, ts)?;
-                    *self = Kept::Mapped(map);
+                Some(map) => {
+                    let mut keys = KeysAbove::all(map);
+                    keys.put(key, ts)?;
+                    *self = Kept::Mapped(keys);
                     Ok(())
                 }
             },
@@ -62,7 +64,7 @@ impl Kept {
     {
         match self {
             Kept::Listed(list) => list.retain(|(_, last)| *last > checkpoint),
-            Kept::Mapped(map) => map.retain(|_, last| *last > checkpoint),
+            Kept::Mapped(keys) => keys.keep_above(checkpoint),
         }
     }
 
@@ -72,7 +74,7 @@ impl Kept {
     {
         match self {
             Kept::Listed(list) => ListItem::copy_items(alloc, list),
-            Kept::Mapped(map) => listed(alloc, map),
+            Kept::Mapped(keys) => keys.to_window(alloc),
         }
     }
 }
@@ -86,14 +88,6 @@ fn last_in(list: &[(KeyBytes, Ts)], key: &KeyBytes) -> Ts
         }
     }
     0
-}
-
-fn put_mapped(map: &mut BTreeMap<KeyBytes, Ts>, key: KeyBytes, ts: Ts) -> Result<(), Memory>
-    ensures ok { OnOk result (map.new.entries ≡ put_key key ts map.old.entries) }
-    ensures err { OnErr result (map.new.entries ≡ map.old.entries) }
-{
-    map.insert(key, ts)?;
-    Ok(())
 }
 
 /// Where a key stands, or is to stand: the place of the first key that is not below it.
@@ -162,15 +156,4 @@ fn comes_last(map: &BTreeMap<KeyBytes, Ts>, key: &KeyBytes) -> bool
         None => true,
         Some((last, _)) => is_below(last, key),
     }
-}
-
-/// The map as a list.
-fn listed(alloc: Global, map: &BTreeMap<KeyBytes, Ts>) -> Result<Window, Memory>
-    ensures { IfOk result (λ window. window ≡ map.now.entries) }
-{
-    let mut window = List::new(alloc);
-    for (key, ts) in map {
-        window.push((key.copy()?, *ts))?;
-    }
-    Ok(window)
 }

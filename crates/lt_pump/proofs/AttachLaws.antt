@@ -11,7 +11,7 @@ use Rattle.lt_model.specs.Fair.{Feed, Grows, HasHeader, header_length, point_of,
 use Rattle.lt_model.specs.Log.{Header, header_item, is_item}
 use Rattle.lt_model.specs.Machine.{StreamAt, behind_header, last_of, no_point}
 use Rattle.lt_model.specs.Outside.{FeedGrows, StaysTold}
-use Rattle.lt_model.specs.Run.{AreHeaders, GoesOn, IsKeptLow, IsMismatch, StreamOpens, bound_before, count_mismatch}
+use Rattle.lt_model.specs.Run.{AreHeaders, Attaches, GoesOn, IsKeptLow, IsMismatch, StreamOpens, bound_before, count_mismatch}
 use Rattle.lt_laws.proofs.FrontLaws.{header_stays}
 use Rattle.lt_records.specs.View.{view_header}
 use Rattle.lt_records.specs.declared.record.StreamHeader.{StreamHeader}
@@ -25,9 +25,10 @@ use Rattle.lt_pump.specs.declared.refusal.AttachRefusal.TheVariants as refusals
 use Rattle.lt_pump.specs.declared.position.Position.{Position}
 use Rattle.lt_pump.proofs.FeedLaws.{told_map, told_step}
 use Rattle.lt_pump.proofs.PumpLaws.{joined}
+use Rattle.lt_pump.proofs.TileLaws.{Kept, Tiling, counted, lows_kept, some_feed}
 
 abbrev pub Lows' : Type 0
-Lows' = Option (List (List ℕ))
+Lows' = Kept
 
 -- the headers of the streams so far
 abbrev pub heads_of : List Position → List Header
@@ -169,9 +170,13 @@ fitting_more told told' kept count n bound bound' lows lows' ps ps' o x q fits s
         )
 
 pub attached : (told : Option Feed) (kept : Lows') (count n : ℕ) (bound : Option (List ℕ)) (lows : List (List ℕ)) (ps : List Position) → n ≡ count → ((f : Feed) → length f ≡ count → count_mismatch f kept ≡ None) → Fitting told kept count n bound lows ps
-    → IfSome told (λ f. HasAttached f kept (map stream_of ps))
-attached told kept count n bound lows ps e none t = told_map (λ f. (length f ≡ count) × AreHeaders f kept [] (heads_of ps)) (λ f. HasAttached f kept (map stream_of ps)) told t.headers
-    (λ f x. (heads_of ps, (none f x.0, heads_length ps ∙ t.number ∙ e ∙ sym x.0, x.1), t.behind))
+    → Tiling kept count n bound lows ps → HasAttached told kept (map stream_of ps)
+attached told kept count n bound lows ps e none t tiling = record {
+  headers = heads_of ps;
+  behind = t.behind;
+  lows = lows_kept kept count n lows (map low_of (map stream_of ps)) e (counted kept count none).as_kept tiling.as_kept t.lows_are;
+  attaches = told_map (λ f. (length f ≡ count) × AreHeaders f kept [] (heads_of ps)) (λ f. Attaches f kept (heads_of ps)) told t.headers (λ f x. (none f x.0, heads_length ps ∙ t.number ∙ e ∙ sym x.0, x.1));
+}
 
 -- ---- a stream behind its header
 
@@ -189,10 +194,6 @@ is_behind g h o p e f l = made_same g h o (header_length h) p (no_point h.from) 
 
 pub count_told : (told : Option Feed) (known count : ℕ) → IfSome told (λ f. length f ≡ known) → count ≡ known → IfSome told (λ f. length f ≡ count)
 count_told told known count h e = told_map (λ f. length f ≡ known) (λ f. length f ≡ count) told h (λ f l. l ∙ sym e)
-
-some_feed : (n : ℕ) → (f : Feed) × (length f ≡ n)
-some_feed zero = ([], refl)
-some_feed (suc n) = let f = some_feed n in ([] ∷ f.0, ap suc f.1)
 
 -- a header that fits has its stream's number, whichever the feed
 pub fits_number : (kept : Lows') (count n : ℕ) (bound : Option (List ℕ)) (h : Header) (fits : Bool) → ((f : Feed) → length f ≡ count → (fits ≡ true) ↔ Fits f kept n bound h) → fits ≡ true → h.stream ≡ n

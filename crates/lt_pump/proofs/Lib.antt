@@ -10,5 +10,9 @@ pub mod Results
 pub mod StepLaws
 pub mod PumpLaws
 pub mod HeaderLaws
+pub mod TileLaws
 pub mod AttachLaws
+pub mod OthersLaws
+pub mod NameLaws
+pub mod TurnLaws
 pub mod SlotLaws

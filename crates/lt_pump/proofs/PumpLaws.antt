@@ -12,7 +12,7 @@ use Rattle.lt_model.specs.Log.{Change, header_item, is_item}
 use Rattle.lt_model.specs.Machine.{StreamAt}
 use Rattle.lt_model.specs.Schema.{Catalogue, change_at}
 use Rattle.lt_pump.specs.Given.{AreBehind}
-use Rattle.lt_pump.specs.Positions.{Ran, RanSome, are_streams, low_of, stream_of}
+use Rattle.lt_pump.specs.Positions.{Ran, RanSome, are_streams, low_of, range_of, stream_of}
 use Rattle.lt_pump.specs.Pumps.{HasPumped, HasPumpedSome}
 use Rattle.lt_pump.specs.View.{view_stop}
 use Rattle.lt_pump.specs.declared.position.Position.{Position}
@@ -25,7 +25,7 @@ within v s l = omega (arith, l, v.ok.0, v.ok.1)
 pub stood : (ps : List Position) (i : ℕ) (p : Position) → i < length ps → p ≡ slice_index_or ps i p → slice_get (map stream_of ps) i ≡ Some (stream_of p)
 stood ps i p l e = mapped_there stream_of ps i p (here ps i p l e)
 
-both : (a : StreamAt) (n : ℕ) (ss : List StreamAt) → are_streams n (a ∷ ss) ≡ true → (a.header.stream ≡ n) × IsTrue (is_item format.One (header_item a.header)) × (are_streams (n + 1) ss ≡ true)
+pub both : (a : StreamAt) (n : ℕ) (ss : List StreamAt) → are_streams n (a ∷ ss) ≡ true → (a.header.stream ≡ n) × IsTrue (is_item format.One (header_item a.header)) × (are_streams (n + 1) ss ≡ true)
 both a n ss h = let p = and_parts (a.header.stream == n && is_item format.One (header_item a.header)) (are_streams (n + 1) ss) h in let q = and_parts (a.header.stream == n) (is_item format.One (header_item a.header)) p.0 in (eqb-true a.header.stream n q.0, q.1, p.1)
 
 pub joined : (a : StreamAt) (n : ℕ) (ss : List StreamAt) → a.header.stream ≡ n → IsTrue (is_item format.One (header_item a.header)) → are_streams (n + 1) ss ≡ true → are_streams n (a ∷ ss) ≡ true
@@ -61,16 +61,19 @@ set_streams n zero (x ∷ ss) a b e h k =
     joined b n ss (ap (λ y. y.stream) (sym same) ∙ p.0) (subst (λ y. IsTrue (is_item format.One (header_item y))) same p.1) p.2
 set_streams n (suc i) (x ∷ ss) a b e h k = let p = both x n ss k in joined x n (slice_set ss i b) p.0 p.1 (set_streams (n + 1) i ss a b e h p.2)
 
-set_lows : (i : ℕ) (ss : List StreamAt) (a b : StreamAt) → slice_get ss i ≡ Some a → b.header ≡ a.header → map low_of (slice_set ss i b) ≡ map low_of ss
-set_lows i [] a b e h = refl
-set_lows zero (x ∷ ss) a b e h = let d : x ≡ a = cc in ap (λ y. y ∷ map low_of ss) (ap (λ y. y.range.low) (h ∙ sym (ap (λ (y : StreamAt). y.header) d)))
-set_lows (suc i) (x ∷ ss) a b e h = ap (λ ys. low_of x ∷ ys) (set_lows i ss a b e h)
+set_same : {A B : Type 0} (f : A → B) (i : ℕ) (xs : List A) (x y : A) → slice_get xs i ≡ Some x → f y ≡ f x → map f (slice_set xs i y) ≡ map f xs
+set_same f i [] x y e h = refl
+set_same f zero (z ∷ xs) x y e h = let d : z ≡ x = cc in ap (λ w. w ∷ map f xs) (h ∙ sym (ap f d))
+set_same f (suc i) (z ∷ xs) x y e h = ap (λ ws. f z ∷ ws) (set_same f i xs x y e h)
 
 pub streams_stay : (s : ℕ) (ps : List Position) (p q : Position) → s < length ps → p ≡ slice_index_or ps s p → (stream_of q).header ≡ (stream_of p).header → are_streams 0 (map stream_of ps) ≡ true → are_streams 0 (map stream_of (slice_set ps s q)) ≡ true
 streams_stay s ps p q l e h k = ap (are_streams 0) (map_set stream_of ps s q) ∙ set_streams 0 s (map stream_of ps) (stream_of p) (stream_of q) (stood ps s p l e) h k
 
 pub lows_stay : (s : ℕ) (ps : List Position) (p q : Position) (lows : List (List ℕ)) → s < length ps → p ≡ slice_index_or ps s p → (stream_of q).header ≡ (stream_of p).header → lows ≡ map low_of (map stream_of ps) → lows ≡ map low_of (map stream_of (slice_set ps s q))
-lows_stay s ps p q lows l e h k = k ∙ sym (ap (map low_of) (map_set stream_of ps s q) ∙ set_lows s (map stream_of ps) (stream_of p) (stream_of q) (stood ps s p l e) h)
+lows_stay s ps p q lows l e h k = k ∙ sym (ap (map low_of) (map_set stream_of ps s q) ∙ set_same low_of s (map stream_of ps) (stream_of p) (stream_of q) (stood ps s p l e) (ap (λ y. y.range.low) h))
+
+pub ranges_stay : (s : ℕ) (ps : List Position) (p q : Position) (rs : List Range) → s < length ps → p ≡ slice_index_or ps s p → (stream_of q).header ≡ (stream_of p).header → map range_of (map stream_of ps) ≡ rs → map range_of (map stream_of (slice_set ps s q)) ≡ rs
+ranges_stay s ps p q rs l e h k = ap (map range_of) (map_set stream_of ps s q) ∙ set_same range_of s (map stream_of ps) (stream_of p) (stream_of q) (stood ps s p l e) (ap (λ y. y.range) h) ∙ k
 
 pub behind_here : (s : ℕ) (ps : List Position) (p : Position) (held : List (List Change)) → s < length ps → p ≡ slice_index_or ps s p → IfSome (slice_get (map stream_of ps) s) (λ a. AreBehind a held) → AreBehind (stream_of p) held
 behind_here s ps p held l e h = subst (λ o. IfSome o (λ a. AreBehind a held)) (stood ps s p l e) h

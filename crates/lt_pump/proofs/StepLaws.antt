@@ -19,7 +19,7 @@ use Rattle.lt_records.specs.declared.record.Found as records
 use Rattle.lt_records.specs.declared.record.Found.TheVariants as found
 use Rattle.lt_records.specs.declared.record.LogRecord.{LogRecord}
 use Rattle.lt_pump.specs.Given.{all_given}
-use Rattle.lt_pump.specs.Positions.{Keeps, Ran, RanSome, Steps, TakesOne, Took, breaks_there, bytes_behind}
+use Rattle.lt_pump.specs.Positions.{AreFair, Keeps, Ran, RanSome, Steps, TakesOne, Took, breaks_there, bytes_behind}
 use Rattle.lt_pump.specs.Reads.{FoundAhead, IsAhead, IsWhole, StandAhead}
 use Rattle.lt_pump.specs.View.{view_stop, view_subscription}
 use Rattle.lt_pump.specs.declared.subscription.Subscription.{Subscription}
@@ -88,10 +88,15 @@ ahead_behind f a i left h =
 
 -- ---- taking, and one step more
 
+fair_more : (cat : Catalogue) (a : StreamAt) (items : List Item) (i : Item) → AreFair cat a items → IsTrue (is_item format.One i) → breaks_there cat (moved_by items a) i ≡ None → AreFair cat a (items ++ i ∷ [])
+fair_more cat a [] i f l e = (l, subst (λ (x : StreamAt). breaks_there cat x i ≡ None) (moved_none a) e, tt)
+fair_more cat a (j ∷ items) i f l e = (f.0, f.1, fair_more cat (moved_by (j ∷ []) a) items i f.2 l (subst (λ (x : StreamAt). breaks_there cat x i ≡ None) (moved_append (j ∷ []) items a) e))
+
 pub took_none : (told : Option Feed) (cat : Catalogue) (subs : List (Range × ℕ)) (a : StreamAt) (held : List (List Change)) → (t : Took told cat subs a a held held) × (0 ≡ length t.items)
 took_none told cat subs a held = (
   record {
     items = [];
+    fair = tt;
     moved = sym (moved_none a);
     given = sym (given_nothing subs held);
     takes = told_all (λ f. Takes f cat a [] (bytes_behind f a)) told (λ f. refl);
@@ -108,6 +113,7 @@ pub took_same : (told told' : Option Feed) (cat : Catalogue) (subs : List (Range
 took_same told told' cat subs a b b' held held1 held' s g e h t = (
   record {
     items = t.items;
+    fair = t.fair;
     moved = e ∙ t.moved;
     given = h ∙ t.given;
     takes = told_step (λ f. Takes f cat a t.items (bytes_behind f b)) (λ f. Unit {0}) (λ f. Takes f cat a t.items (bytes_behind f b')) told told' s g t.takes (told_all (λ f. Unit {0}) told' (λ f. tt))
@@ -130,6 +136,7 @@ pub took_one : (told told' : Option Feed) (cat : Catalogue) (subs : List (Range 
 took_one told told' cat subs a b b' held held1 held' left one s g step t = (
   record {
     items = t.items ++ step.item ∷ [];
+    fair = fair_more cat a t.items step.item t.fair step.lawful (subst (λ (x : StreamAt). breaks_there cat x step.item ≡ None) t.moved step.kept.0);
     moved = step.kept.1 ∙ ap (moved_by (step.item ∷ [])) t.moved ∙ sym (moved_append t.items (step.item ∷ []) a);
     given = step.kept.2 ∙ ap (all_given (changes_of (step.item ∷ [])) subs) t.given ∙ sym (given_append (changes_of t.items) (changes_of (step.item ∷ [])) subs held)
         ∙ ap (λ (cs : List Change). all_given cs subs held) (sym (changes_of-append t.items (step.item ∷ [])));

@@ -44,3 +44,7 @@ IsBehind a c = IsTrue (in_range (change_key c) a.header.range) → (c.ts ≤ a.p
 
 abbrev pub AreBehind : StreamAt → List (List Change) → Type 0
 AreBehind a held = AllByRecursion (λ cs. AllByRecursion (IsBehind a) cs) held
+
+-- the same for each stream
+abbrev pub AreAllBehind : List StreamAt → List (List Change) → Type 0
+AreAllBehind ss held = AllByRecursion (λ a. AreBehind a held) ss

@@ -6,3 +6,5 @@ pub mod Positions
 pub mod Headers
 pub mod Pumps
 pub mod Order
+pub mod Names
+pub mod Messages

@@ -1,5 +1,5 @@
 -- Where a stream stands, and what taking its records leaves.
-use Rattle.std.specs.Prelude.{Bool, List, None, Option, Some, IfSome, IsTrue, [], drop, false, length, true, ℕ, ◌&&◌, ◌+◌, ◌++◌, ◌<◌, ◌==◌, ◌∷◌, ◌≡◌, ◌≤◌}
+use Rattle.std.specs.Prelude.{Bool, List, None, Option, Some, IfSome, IsTrue, [], drop, false, length, true, ℕ, ⊤, ◌&&◌, ◌+◌, ◌++◌, ◌<◌, ◌==◌, ◌∷◌, ◌≡◌, ◌≤◌}
 use Rattle.lt_model.specs.declared.Format.TheVariants as format
 use Rattle.lt_model.specs.Fair as fair
 use Rattle.lt_model.specs.Fair.{Feed, breaks_at, point_after, stream_bytes}
@@ -26,6 +26,9 @@ are_streams n (a ∷ ss) = a.header.stream == n && is_item format.One (header_it
 
 abbrev pub low_of : StreamAt → List ℕ
 low_of a = a.header.range.low
+
+abbrev pub range_of : StreamAt → Range
+range_of a = a.header.range
 
 -- a stream that goes on at a place, from a point
 abbrev pub started : ℕ → fair.Point → StreamAt → StreamAt
@@ -64,9 +67,15 @@ abbrev pub Steps : Option Feed → Catalogue → List (Range × ℕ) → StreamA
 Steps told cat subs a b held held' left None = TakesOne told cat subs a b held held' left
 Steps told cat subs a b held held' left (Some stop) = (b ≡ a) × (held' ≡ held) × IfSome told (λ f. StopsBy f cat a (bytes_behind f a) (view_stop stop))
 
--- Some items were taken of a stream, and their changes given. Where the feed tells, they stand behind where the stream stood.
+-- Each item has a frame, and breaks no rule where the stream stands behind those before it.
+abbrev pub AreFair : Catalogue → StreamAt → List Item → Type 0
+AreFair cat a [] = ⊤
+AreFair cat a (i ∷ items) = IsTrue (is_item format.One i) × (breaks_there cat a i ≡ None) × AreFair cat (moved_by (i ∷ []) a) items
+
+-- Some fair items were taken of a stream, and their changes given. Where the feed tells, they stand behind where the stream stood.
 pub record Took (told : Option Feed) (cat : Catalogue) (subs : List (Range × ℕ)) (a b : StreamAt) (held held' : List (List Change)) : Type 0 where
   pub items : List Item
+  pub fair : AreFair cat a items
   pub moved : b ≡ moved_by items a
   pub given : held' ≡ all_given (changes_of items) subs held
   pub takes : IfSome told (λ f. Takes f cat a items (bytes_behind f b))

@@ -1,5 +1,5 @@
 -- What a pump stands for, and what its calls leave.
-use Rattle.std.specs.Prelude.{List, Option, Some, IfSome, map, slice_get, slice_set, ℕ, ◌≡◌}
+use Rattle.std.specs.Prelude.{List, Option, Some, IfSome, map, slice_get, slice_set, ℕ, ◌≡◌, ◌≢◌}
 use Rattle.lt_model.specs.Fair.{Feed}
 use Rattle.lt_model.specs.Disk.{Rose}
 use Rattle.lt_model.specs.Key.{Range}
@@ -7,7 +7,8 @@ use Rattle.lt_model.specs.Log.{Change, Header}
 use Rattle.lt_model.specs.Machine.{StreamAt, behind_header}
 use Rattle.lt_model.specs.Run.{Attaches, IsMismatch}
 use Rattle.lt_model.specs.Schema.{Catalogue}
-use Rattle.lt_pump.specs.Positions.{Ran, RanSome, stream_of}
+use Rattle.lt_pump.specs.Given.{AreBehind}
+use Rattle.lt_pump.specs.Positions.{Ran, RanSome, low_of, stream_of}
 use Rattle.lt_pump.specs.View.{view_stop}
 use Rattle.lt_pump.specs.declared.pump.Pump.{Pump}
 use Rattle.lt_pump.specs.declared.reading.Fault.{Fault}
@@ -20,9 +21,16 @@ use Rattle.lt_pump.specs.declared.stop.Pumped.{Pumped}
 abbrev pub streams_of : Pump → List StreamAt
 streams_of p = map stream_of p.positions.items
 
--- the streams stand behind headers that fit
-abbrev pub HasAttached : Feed → Option (List (List ℕ)) → List StreamAt → Type 0
-HasAttached f kept ss = (hs : List Header) × Attaches f kept hs × (ss ≡ map behind_header hs)
+-- The streams stand behind headers, whose low bounds are those that were kept. Where the feed tells, the headers are its, and fit.
+pub record HasAttached (told : Option Feed) (kept : Option (List (List ℕ))) (ss : List StreamAt) : Type 0 where
+  pub headers : List Header
+  pub behind : ss ≡ map behind_header headers
+  pub lows : IfSome kept (λ lows. map low_of ss ≡ lows)
+  pub attaches : IfSome told (λ f. Attaches f kept headers)
+
+-- what is held stays behind the streams other than one
+abbrev pub OthersStay : List StreamAt → ℕ → List (List Change) → List (List Change) → Type 0
+OthersStay ss number held held' = (n : ℕ) (b : StreamAt) → slice_get ss n ≡ Some b → n ≢ number → AreBehind b held → AreBehind b held'
 
 -- what a pump is refused by where reading a header failed
 abbrev pub refusal_of : Fault → AttachRefusal

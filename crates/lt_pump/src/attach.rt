@@ -1,6 +1,7 @@
 //! How a pump is made: whether the feed's streams begin with headers that tile the keys.
 //!
-//! It takes time by the bytes of the headers, which are read in pieces where the feed gives them so.
+//! Of each stream pieces of 64 KiB are zeroed and read until its first frame stands whole: one where it is a header and the feed gives it
+//! at once, and 17 at most where the feed fills them. So it takes time by the number of streams, of which there are at most 64.
 
 ghost use Rattle.std.specs.Prelude.{◌≡◌, ◌+◌, ◌<◌, ◌≤◌, ◌↔◌, IfErr, IfOk, IfSome, IsErrOf, OnOk, Some, length, true};
 ghost use Rattle.std.specs.Option.{option_copied};
@@ -77,7 +78,7 @@ impl Pump {
         feed: &mut F,
         kept: Option<&Lows>,
     ) -> Result<Pump, AttachRefusal>
-        ensures attached { IfOk result (λ pump. IfSome (F.told feed.new) (λ f. HasAttached f (option_copied kept.entry) (streams_of pump))) }
+        ensures attached { IfOk result (λ pump. HasAttached (F.told feed.new) (option_copied kept.entry) (streams_of pump)) }
         ensures known { IfOk result (λ pump. length (streams_of pump) ≤ F.known feed.new) }
         ensures refused { IfErr result (AttachRefused (F.told feed.new) (option_copied kept.entry) (F.faults feed.old) (F.faults feed.new)) }
         ensures faults { OnOk result (F.faults feed.new ≡ F.faults feed.old) }

@@ -7,6 +7,7 @@
 mod ahead;
 mod attach;
 mod deliver;
+mod names;
 mod owners;
 mod position;
 mod pump;
@@ -17,11 +18,12 @@ mod subscription;
 
 pub use deliver::Deliver;
 pub use lt_core::{KeyBytes, Memory, Range, Ts};
-pub use lt_fair::Unfair;
+pub use lt_fair::{Point, Unfair};
 pub use lt_io::Feed;
 pub use lt_model::BadFrame;
 pub use lt_records::ChangeRecord;
 pub use lt_schema::Catalogue;
+pub use names::names_follow;
 pub use pump::Pump;
 pub use refusal::{AttachRefusal, PumpFault};
 pub use stop::{Pumped, Stop};

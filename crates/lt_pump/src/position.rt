@@ -1,7 +1,8 @@
 //! Where a stream stands, and how it takes records: one after another, while they are whole and fair.
 //!
-//! A call puts the subscriptions in order once. A record takes time by its bytes, and by the logarithms of the number of
-//! subscriptions and of the keys that the check keeps.
+//! A call puts the subscriptions in order once, and drops at its end what was read ahead. A change takes time by its bytes, and by
+//! the logarithms of the number of subscriptions and of the keys that the check keeps; a checkpoint is only noted there. After a point
+//! was handed in, each test goes over its window until a change is taken.
 
 ghost use Rattle.std.specs.Prelude.{◌≡◌, ◌-◌, ◌+◌, ◌<◌, ◌≤◌, ◌^◌, ◌∷◌, [], IfNone, IfOk, IfSome, IsErrOf, IsTrue, None, OnErr, OnOk, Some, length, map, option_map, slice_get, unwrap_or};
 ghost use Rattle.lt_model.specs.declared.Format.TheVariants as format;

@@ -1,7 +1,8 @@
 //! The streams of a feed, each with the place behind the records that were taken of it.
 
-ghost use Rattle.std.specs.Prelude.{◌≡◌, IsTrue, map};
-ghost use Rattle.lt_pump.specs.Positions.{are_streams, low_of, stream_of};
+ghost use Rattle.std.specs.Prelude.{◌≡◌, ◌≤◌, IsTrue, length, map};
+ghost use Rattle.lt_model.specs.Key.{ranges_from, tile};
+ghost use Rattle.lt_pump.specs.Positions.{are_streams, low_of, range_of, stream_of};
 
 use crate::deliver::Deliver;
 use crate::position::Position;
@@ -14,30 +15,38 @@ use lt_fair::Point;
 use lt_io::Feed;
 use lt_schema::Catalogue;
 
-/// Where each stream of a feed stands, by number.
+/// Where each stream of a feed stands, by number. There are 1 to 64, and their ranges tile the keys.
 #[derive(Debug, Drop)]
 pub struct Pump {
     positions: Vec<Position>,
     lows: Lows,
     pub ghost streams: { IsTrue (are_streams 0 (map stream_of positions.items)) },
     pub ghost bounds: { lows ≡ map low_of (map stream_of positions.items) },
+    pub ghost tiles: { IsTrue (tile lows) },
+    pub ghost ranges: { map range_of (map stream_of positions.items) ≡ ranges_from lows },
+    pub ghost some: { 1 ≤ length positions.items },
+    pub ghost few: { length positions.items ≤ 64 },
 }
 
 impl Pump {
-    ghost use Rattle.std.specs.Prelude.{◌<◌, ◌≤◌, ◌↔◌, IfOk, IfSome, IsErrOf, OnErr, OnOk, length, slice_get, slice_set};
+    ghost use Rattle.std.specs.Prelude.{◌<◌, ◌↔◌, IfOk, IfSome, IsErrOf, OnErr, OnOk, slice_get, slice_set};
     ghost use Rattle.lt_model.specs.Schema.{change_at};
     ghost use Rattle.lt_pump.specs.Positions.{started};
     ghost use Rattle.lt_model.specs.Disk.{Rose};
     ghost use Rattle.lt_fair.specs.View.{view_point};
     ghost use Rattle.lt_pump.specs.Feeds.{FeedGoes};
-    ghost use Rattle.lt_pump.specs.Given.{AreBehind, AreSubscriptions};
-    ghost use Rattle.lt_pump.specs.Pumps.{HasPumped, HasPumpedSome, streams_of};
+    ghost use Rattle.lt_pump.specs.Given.{AreAllBehind, AreBehind, AreSubscriptions};
+    ghost use Rattle.lt_pump.specs.Pumps.{HasPumped, HasPumpedSome, OthersStay, streams_of};
     ghost use Rattle.lt_pump.specs.View.{view_subscription};
 
     /// Streams that stand so, with their low bounds.
     pub(crate) fn of(positions: Vec<Position>, lows: Lows) -> Pump
         requires streams { IsTrue (are_streams 0 (map stream_of positions.items)) }
         requires bounds { lows ≡ map low_of (map stream_of positions.items) }
+        requires tiles { IsTrue (tile lows) }
+        requires ranges { map range_of (map stream_of positions.items) ≡ ranges_from lows }
+        requires some { 1 ≤ length positions.items }
+        requires few { length positions.items ≤ 64 }
         ensures { streams_of result ≡ map stream_of positions.items }
     {
         Pump { positions, lows }
@@ -63,8 +72,10 @@ impl Pump {
         // After a fault the stream stands behind the last record taken.
         ensures some { stream < length (streams_of self.old) → OnErr result (HasPumpedSome (F.told feed.new) cat.now stream n (map view_subscription subs.now) (streams_of self.old) (streams_of self.new) (V.held to.old) (V.held to.new)) }
 
-        // What the next call needs.
+        // What the next call needs, of this stream or of another.
         ensures behind { IfSome (slice_get (streams_of self.new) stream) (λ a. AreBehind a (V.held to.new)) }
+        ensures others { OthersStay (streams_of self.old) stream (V.held to.old) (V.held to.new) }
+        ensures all { AreAllBehind (streams_of self.old) (V.held to.old) → AreAllBehind (streams_of self.new) (V.held to.new) }
         ensures streams { length (streams_of self.new) ≡ length (streams_of self.old) }
         ensures lists { length (V.held to.new) ≡ length (V.held to.old) }
         ensures catalogue { V.catalogue to.new ≡ V.catalogue to.old }

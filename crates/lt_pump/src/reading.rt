@@ -1,6 +1,7 @@
 //! Reading a stream: pieces of 64 KiB, until a whole frame stands at the front.
 //!
-//! A look at the front that finds too few bytes takes constant time, so reading takes time by the bytes.
+//! A piece is zeroed before it is read, so each read takes the time of 64 KiB, also where the feed gives less, and each pump of
+//! one record or more reads at least once. A look at the front that finds too few bytes takes constant time, so the rest takes time by the bytes.
 
 ghost use Rattle.std.specs.Prelude.{◌≡◌, ◌+◌, ◌-◌, ◌<◌, ◌≤◌, ◌^◌, length, false, true, IfOk, IfSome, OnOk, IsErrOf};
 ghost use Rattle.lt_model.specs.Disk.{Rose};

@@ -1,8 +1,9 @@
 //! What no clause shows: that calls succeed where there is memory, and what comes of worked logs.
 
-ghost use Rattle.std.specs.Prelude.{◌≡◌, ◌∷◌, [], IfOk, length, map};
+ghost use Rattle.std.specs.Prelude.{◌≡◌, ◌≤◌, ◌∷◌, [], IfOk, length, map};
 ghost use Rattle.lt_io.specs.Memory.{feed_streams};
-ghost use Rattle.lt_pump.specs.Given.{AreSubscriptions};
+ghost use Rattle.lt_pump.specs.Given.{AreAllBehind, AreSubscriptions};
+ghost use Rattle.lt_pump.specs.Pumps.{streams_of};
 ghost use Rattle.lt_pump.specs.View.{view_subscription};
 
 use crate::*;
@@ -19,6 +20,8 @@ use slots::Slots;
 /// An item of a worked log. Changes delete a row of table 2, by a number as key.
 #[derive(Clone, Copy, Debug)]
 enum Item {
+    /// Of stream 0, with all keys.
+    Whole,
     /// Of stream 0, with the keys below 100.
     Lower,
     /// Of stream 1, with the keys from 100 on.
@@ -99,6 +102,7 @@ fn change_body(alloc: Global, ids: (u32, u32), ts: Ts, op: u8, key: i64) -> Resu
 fn parts_of(alloc: Global, item: Item) -> Result<(u8, Blob), Fail> {
     let middle = key_of(alloc, 100)?;
     Ok(match item {
+        Whole => (1, header_body(alloc, 0, b"", None)?),
         Lower => (1, header_body(alloc, 0, b"", Some(middle.as_slice()))?),
         Upper => (1, header_body(alloc, 1, middle.as_slice(), None)?),
         Delete(ts, key) => parts_of_delete(alloc, (2, 1), ts, key)?,
@@ -131,37 +135,42 @@ fn log_of(alloc: Global, items: &[Item]) -> Result<Blob, Fail> {
     Ok(log)
 }
 
-/// A feed of two streams, the first with these bytes.
-fn feed_of(alloc: Global, bytes: &[u8]) -> Result<MemFeed, Fail>
+/// A feed of two streams with these bytes.
+fn feed_of(alloc: Global, lower: &[u8], upper: &[u8]) -> Result<MemFeed, Fail>
     ensures { IfOk result (λ feed. length (feed_streams feed) ≡ 2) }
 {
     let mut feed = MemFeed::new(alloc);
-    feed.add_stream(Blob::from_slice(alloc, bytes)?)?;
-    feed.add_stream(log_of(alloc, &[Upper])?)?;
+    feed.add_stream(Blob::from_slice(alloc, lower)?)?;
+    feed.add_stream(Blob::from_slice(alloc, upper)?)?;
     Ok(feed)
 }
 
-/// Of the keys below 10 all changes, and of those from 10 on the ones above 5.
-fn two_subscriptions(alloc: Global) -> Result<Subscriptions, Fail>
-    ensures { IfOk result (λ subs. AreSubscriptions (map view_subscription subs) ([] ∷ [] ∷ [])) }
+/// Of the keys from 10 on the changes above 5, and of those below 10 all. Between them stands a range without keys.
+fn subscriptions(alloc: Global) -> Result<Subscriptions, Fail>
+    ensures { IfOk result (λ subs. AreSubscriptions (map view_subscription subs) ([] ∷ [] ∷ [] ∷ [])) }
 {
     let middle = key_of(alloc, 10)?;
-    let lower = Range {
-        low: KeyBytes::new(alloc),
-        high: Some(middle.copy()?),
-    };
-    let upper = Range {
-        low: middle,
-        high: None,
-    };
     let mut subs = List::new(alloc);
     subs.push(Subscription {
-        range: lower,
+        range: Range {
+            low: middle.copy()?,
+            high: None,
+        },
+        from: 5,
+    })?;
+    subs.push(Subscription {
+        range: Range {
+            low: middle.copy()?,
+            high: Some(middle.copy()?),
+        },
         from: 0,
     })?;
     subs.push(Subscription {
-        range: upper,
-        from: 5,
+        range: Range {
+            low: KeyBytes::new(alloc),
+            high: Some(middle),
+        },
+        from: 0,
     })?;
     Ok(subs)
 }
@@ -173,16 +182,68 @@ fn pump_parts(
     front: &[u8],
     rest: &[u8],
     n: u64,
-) -> Result<(Pumped, Pumped, [Option<Ts>; 2]), Fail> {
+) -> Result<(Pumped, Pumped, [Option<Ts>; 3]), Fail> {
     let cat = catalogue(alloc)?;
-    let subs = two_subscriptions(alloc)?;
+    let subs = subscriptions(alloc)?;
     let mut slots = Slots::new(alloc, &cat)?;
-    let mut feed = feed_of(alloc, front)?;
+    let mut feed = feed_of(alloc, front, log_of(alloc, &[Upper])?.as_slice())?;
     let mut pump = Pump::attach(alloc, &mut feed, None)?;
     let first = pump.pump(&mut feed, &cat, 0, n, &subs, &mut slots)?;
     feed.append(0, rest)?;
     let second = pump.pump(&mut feed, &cat, 0, n, &subs, &mut slots)?;
-    Ok((first, second, [slots.ts(0), slots.ts(1)]))
+    Ok((first, second, slots.times()))
+}
+
+/// Pumps stream 0, so many records at a time, until it stops for another reason than their number, at most 9 times. Tells how
+/// many records it took, and what the last pump told.
+#[tactic(auto, using(crate::proofs::TurnLaws::behind_at, crate::proofs::TurnLaws::subs_again))]
+fn pump_through<F: Feed, V: Deliver>(
+    pump: &mut Pump,
+    feed: &mut F,
+    cat: &Catalogue,
+    n: u64,
+    subs: &Subscriptions,
+    to: &mut V,
+) -> Result<(u64, Option<Pumped>), PumpFault>
+    requires known { length (streams_of pump.old) ≤ F.known feed.old }
+    requires subs { AreSubscriptions (map view_subscription subs.now) (V.held to.old) }
+    requires catalogue { cat.now ≡ V.catalogue to.old }
+    requires behind { AreAllBehind (streams_of pump.old) (V.held to.old) }
+    ensures known { length (streams_of pump.new) ≤ F.known feed.new }
+    ensures lists { length (V.held to.new) ≡ length (V.held to.old) }
+    ensures catalogue { V.catalogue to.new ≡ V.catalogue to.old }
+    ensures behind { AreAllBehind (streams_of pump.new) (V.held to.new) }
+{
+    let mut records = 0u64;
+    for _ in 0..9 {
+        let pumped = pump.pump(feed, cat, 0, n, subs, to)?;
+        records = records.saturating_add(pumped.records);
+        if pumped.stop != Stop::Count {
+            return Ok((records, Some(pumped)));
+        }
+    }
+    Ok((records, None))
+}
+
+/// Pumps the first two streams in turn.
+#[tactic(auto, using(crate::proofs::TurnLaws::behind_at, crate::proofs::TurnLaws::subs_again))]
+fn pump_both<F: Feed, V: Deliver>(
+    pump: &mut Pump,
+    feed: &mut F,
+    cat: &Catalogue,
+    n: u64,
+    subs: &Subscriptions,
+    to: &mut V,
+) -> Result<(Pumped, Pumped), PumpFault>
+    requires known { length (streams_of pump.old) ≤ F.known feed.old }
+    requires subs { AreSubscriptions (map view_subscription subs.now) (V.held to.old) }
+    requires catalogue { cat.now ≡ V.catalogue to.old }
+    requires behind { AreAllBehind (streams_of pump.old) (V.held to.old) }
+    ensures behind { AreAllBehind (streams_of pump.new) (V.held to.new) }
+{
+    let first = pump.pump(feed, cat, 0, n, subs, to)?;
+    let second = pump.pump(feed, cat, 1, n, subs, to)?;
+    Ok((first, second))
 }
 
 /// The log of stream 0 with these items.
@@ -200,7 +261,7 @@ fn late_change(rt: HostRuntime) -> Result<(), Fail> {
     let late = Stop::Unfair(Unfair::Late { checkpoint: 6 });
     assert!(rt; first.records == 2 && first.checkpoint == 6 && first.stop == late);
     assert!(rt; second.records == 0 && second.offset == first.offset && second.stop == late);
-    assert!(rt; given == [Some(5), None]);
+    assert!(rt; given == [None, None, Some(5)]);
     Ok(())
 }
 
@@ -247,7 +308,26 @@ fn logs_stop(rt: HostRuntime) -> Result<(), Fail> {
     Ok(())
 }
 
-/// A log that is cut anywhere behind its header, and then goes on: two pumps take what one takes.
+/// What is taken of a log of stream 0 that stands in two growths, so many records at a time: how many, how the last pump ended, and
+/// the timestamps of what was handed over.
+fn pump_growths(
+    alloc: Global,
+    front: &[u8],
+    rest: &[u8],
+    n: u64,
+) -> Result<(u64, Option<Pumped>, [Option<Ts>; 3]), Fail> {
+    let cat = catalogue(alloc)?;
+    let subs = subscriptions(alloc)?;
+    let mut slots = Slots::new(alloc, &cat)?;
+    let mut feed = feed_of(alloc, front, log_of(alloc, &[Upper])?.as_slice())?;
+    let mut pump = Pump::attach(alloc, &mut feed, None)?;
+    let (first, _) = pump_through(&mut pump, &mut feed, &cat, n, &subs, &mut slots)?;
+    feed.append(0, rest)?;
+    let (second, last) = pump_through(&mut pump, &mut feed, &cat, n, &subs, &mut slots)?;
+    Ok((first.saturating_add(second), last, slots.times()))
+}
+
+/// A log that is cut anywhere behind its header, and then goes on: pumps of one, of two and of all records take what one takes.
 #[test]
 fn every_cut_goes_on(rt: HostRuntime) -> Result<(), Fail> {
     let alloc = rt.alloc();
@@ -260,20 +340,46 @@ fn every_cut_goes_on(rt: HostRuntime) -> Result<(), Fail> {
         let Some((front, rest)) = log.as_slice().split_at_checked(cut) else {
             continue;
         };
-        let (first, second, given) = pump_parts(alloc, front, rest, 9)?;
-        assert!(rt;
-            second.records == 4u64.saturating_sub(first.records),
-            "cut {cut}"
-        );
-        assert!(rt;
-            second.stop == Stop::End && second.checkpoint == 9 && second.offset == log.len() as u64
-        );
-        assert!(rt; given == [Some(4), Some(9)], "cut {cut}");
-        assert!(rt;
-            first.stop == Stop::End || first.stop == Stop::Partial,
-            "cut {cut}"
-        );
+        for n in [1, 2, 9] {
+            let (records, last, given) = pump_growths(alloc, front, rest, n)?;
+            let Some(last) = last else {
+                return Err(Fail::new("it goes on"));
+            };
+            assert!(rt; records == 4 && last.stop == Stop::End, "cut {cut}");
+            assert!(rt; last.checkpoint == 9 && last.offset == log.len() as u64);
+            assert!(rt; given == [Some(9), None, Some(4)], "cut {cut}");
+        }
     }
+    Ok(())
+}
+
+#[test]
+fn partial_frame(rt: HostRuntime) -> Result<(), Fail> {
+    let log = lower_log(rt.alloc(), &[Delete(5, 1)])?;
+    let Some((front, rest)) = log.as_slice().split_at_checked(log.len().saturating_sub(1)) else {
+        return Err(Fail::new("no frame"));
+    };
+    let (first, second, given) = pump_parts(rt.alloc(), front, rest, 9)?;
+    assert!(rt; first.records == 0 && first.stop == Stop::Partial);
+    assert!(rt; second.records == 1 && second.stop == Stop::End);
+    assert!(rt; given == [None, None, Some(5)]);
+    Ok(())
+}
+
+#[test]
+fn two_streams_in_turn(rt: HostRuntime) -> Result<(), Fail> {
+    let alloc = rt.alloc();
+    let cat = catalogue(alloc)?;
+    let subs = subscriptions(alloc)?.copy()?;
+    let mut slots = Slots::new(alloc, &cat)?;
+    let lower = lower_log(alloc, &[Delete(4, 1)])?;
+    let upper = log_of(alloc, &[Upper, Delete(9, 100), Checkpoint(9)])?;
+    let mut feed = feed_of(alloc, lower.as_slice(), upper.as_slice())?;
+    let mut pump = Pump::attach(alloc, &mut feed, None)?;
+    let (first, second) = pump_both(&mut pump, &mut feed, &cat, 9, &subs, &mut slots)?;
+    assert!(rt; first.records == 1 && first.checkpoint == 0 && first.stop == Stop::End);
+    assert!(rt; second.records == 2 && second.checkpoint == 9 && second.stop == Stop::End);
+    assert!(rt; slots.times() == [Some(9), None, Some(4)]);
     Ok(())
 }
 
@@ -309,6 +415,10 @@ fn headers_that_do_not_fit(rt: HostRuntime) -> Result<(), Fail> {
     lows.push(key_of(alloc, 99)?)?;
     let at = |stream| Some(AttachRefusal::Mismatch { stream });
     assert!(rt; refused(alloc, &[Lower, Upper], None)?.is_none());
+    assert!(rt; refused(alloc, &[Whole], None)?.is_none());
+    assert!(rt; refused(alloc, &[Lower; 65], None)? == at(64));
+    assert!(rt; refused(alloc, &[Whole, Upper], None)? == at(0));
+    assert!(rt; refused(alloc, &[Whole], Some(&lows))? == at(1));
     assert!(rt; refused(alloc, &[], None)? == at(0));
     assert!(rt; refused(alloc, &[Lower], None)? == at(0));
     assert!(rt; refused(alloc, &[Upper], None)? == at(0));

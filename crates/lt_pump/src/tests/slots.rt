@@ -1,11 +1,11 @@
-//! Two subscriptions' changes, one for each.
+//! Three subscriptions' changes, one for each.
 
 ghost use Rattle.std.specs.Prelude.{◌≡◌, ◌∷◌, [], IfOk, None};
 
 use crate::*;
 use std::alloc::Global;
 
-/// It keeps one change for each of two subscriptions: a second one finds no memory.
+/// It keeps one change for each of three subscriptions: a second one finds no memory.
 #[derive(Debug, Drop)]
 pub struct Slots<'a> {
     cat: &'a Catalogue,
@@ -16,16 +16,21 @@ impl<'a> Slots<'a> {
     /// No changes.
     pub fn new(alloc: Global, cat: &'a Catalogue) -> Result<Slots<'a>, Memory>
         ensures catalogue { IfOk result (λ s. s.cat.now ≡ cat.now) }
-        ensures empty { IfOk result (λ s. s.slots.items ≡ None ∷ None ∷ []) }
+        ensures empty { IfOk result (λ s. s.slots.items ≡ None ∷ None ∷ None ∷ []) }
     {
         let mut slots = Vec::new(alloc);
+        slots.push(None)?;
         slots.push(None)?;
         slots.push(None)?;
         Ok(Slots { cat, slots })
     }
 
-    /// The timestamp of a subscription's change.
-    pub fn ts(&self, sub: usize) -> Option<Ts> {
+    /// The timestamps of the subscriptions' changes.
+    pub fn times(&self) -> [Option<Ts>; 3] {
+        [self.ts(0), self.ts(1), self.ts(2)]
+    }
+
+    fn ts(&self, sub: usize) -> Option<Ts> {
         match self.slots.get(sub) {
             Some(Some(change)) => Some(change.ts),
             _ => None,

@@ -8,6 +8,7 @@ use Rattle.lt_pump.specs.Positions.{stream_of}
 use Rattle.lt_pump.specs.Pumps.{HasAttached}
 use Rattle.lt_pump.proofs.FeedLaws.{goes_called, goes_then}
 use Rattle.lt_pump.proofs.AttachLaws.{attached, count_told, fits_number, fitting_more, fitting_none, header_refused, memory_refused, mismatch_none, mismatch_unfit}
+use Rattle.lt_pump.proofs.TileLaws.{counted, tiled, tiling_more, tiling_none}
 use Rattle.lt_pump.proofs.pump.Pump.attach.Goals as goal
 
 pub loop-stream-init : goal.loop-stream-init
@@ -15,6 +16,7 @@ loop-stream-init g c = record {
   known = omega (arith, c.in_ok-count.ensures.number);
   fitting = fitting_none (g.F.Feed.told c.streams.new.self) (option_copied c.args.kept) c.in_ok-count.count (Some c.new.result) c.new-lows.result c.new-positions.result.items
       (count_told (g.F.Feed.told c.streams.new.self) (g.F.Feed.known c.streams.new.self) c.in_ok-count.count (g.met.F.Feed.as_many c.streams.new.self) c.in_ok-count.ensures.number) (ap Some c.new.ensures) c.new-lows.ensures c.new-positions.ensures.items;
+  tiling = tiling_none (option_copied c.args.kept) c.in_ok-count.count (Some c.new.result) c.new-lows.result c.new-positions.result.items (ap Some c.new.ensures) c.new-lows.ensures c.new-positions.ensures.items;
   kept = c.in_ok-count.ensures.called.cause.kept;
   goes = goes_called _ _ _ _ _ _ _ _ _ c.streams.ensures.called;
 }
@@ -86,6 +88,8 @@ loop-stream-preserved g c = record {
       (subst (λ o. IfSome o IsFramed) c.in-Some-2.is c.in_ok-header.ensures.frame) c.goes_on.ensures c.if-not-goes_on.false c.behind.ensures
       (fits_number (option_copied c.args.kept) c.in_ok-count.count c.loop-stream.stream c.loop-stream.bound (view_header c.in-Some-2.header) c.goes_on.result c.goes_on.ensures c.if-not-goes_on.false)
       c.in_ok-bound.ensures (c.in_ok-push.ensures.ok ∙ ap (λ (x : List ℕ). c.loop-stream.lows ++ x ∷ []) c.in_ok-copy.ensures) c.in_ok-push-2.ensures.items;
+  tiling = tiling_more (option_copied c.args.kept) c.in_ok-count.count c.loop-stream.stream c.loop-stream.bound c.in_ok-bound.bound c.loop-stream.lows c.push.new.self c.loop-stream.positions.items c.push-in-loop-stream.new.self.items c.behind.result (view_header c.in-Some-2.header)
+      c.goes_on.result c.loop-stream.invariant.tiling c.goes_on.ensures c.if-not-goes_on.false c.behind.ensures c.in_ok-bound.ensures (c.in_ok-push.ensures.ok ∙ ap (λ (x : List ℕ). c.loop-stream.lows ++ x ∷ []) c.in_ok-copy.ensures) c.in_ok-push-2.ensures.items;
   kept = c.in_ok-header.ensures.kept ∙ c.loop-stream.invariant.kept;
   goes = goes_then _ _ _ _ _ _ _ _ _ c.loop-stream.invariant.goes c.header_of.ensures.feed;
 }
@@ -96,10 +100,28 @@ of-requires-clause-streams g c = c.loop-stream.invariant.fitting.streams
 pub of-requires-clause-bounds : goal.of-requires-clause-bounds
 of-requires-clause-bounds g c = c.loop-stream.invariant.fitting.lows_are
 
+pub of-requires-clause-tiles : goal.of-requires-clause-tiles
+of-requires-clause-tiles g c = (tiled (option_copied c.args.kept) c.in_ok-count.count c.loop-stream.stream c.loop-stream.bound c.loop-stream.lows c.loop-stream.positions.items (omega (arith, c.loop-stream-test.false, c.loop-stream.auto.stream-end))
+    (counted (option_copied c.args.kept) c.in_ok-count.count (λ f l. sym (c.unfit_number.ensures f l) ∙ c.in_default.is)) c.loop-stream.invariant.tiling c.loop-stream.invariant.fitting.streams).0
+
+pub of-requires-clause-ranges : goal.of-requires-clause-ranges
+of-requires-clause-ranges g c = (tiled (option_copied c.args.kept) c.in_ok-count.count c.loop-stream.stream c.loop-stream.bound c.loop-stream.lows c.loop-stream.positions.items (omega (arith, c.loop-stream-test.false, c.loop-stream.auto.stream-end))
+    (counted (option_copied c.args.kept) c.in_ok-count.count (λ f l. sym (c.unfit_number.ensures f l) ∙ c.in_default.is)) c.loop-stream.invariant.tiling c.loop-stream.invariant.fitting.streams).1
+
+pub of-requires-clause-some : goal.of-requires-clause-some
+of-requires-clause-some g c =
+    let n = counted (option_copied c.args.kept) c.in_ok-count.count (λ f l. sym (c.unfit_number.ensures f l) ∙ c.in_default.is) in
+    omega (arith, n.some, c.loop-stream.invariant.fitting.number, c.loop-stream-test.false, c.loop-stream.auto.stream-end)
+
+pub of-requires-clause-few : goal.of-requires-clause-few
+of-requires-clause-few g c =
+    let n = counted (option_copied c.args.kept) c.in_ok-count.count (λ f l. sym (c.unfit_number.ensures f l) ∙ c.in_default.is) in
+    omega (arith, n.few, c.loop-stream.invariant.fitting.number, c.loop-stream-test.false, c.loop-stream.auto.stream-end)
+
 pub returns-clause-attached : goal.returns-clause-attached
-returns-clause-attached g c = subst (λ ss. IfSome (g.F.Feed.told c.loop-stream.feed) (λ f. HasAttached f (option_copied c.args.kept) ss)) (sym c.of.ensures)
+returns-clause-attached g c = subst (λ ss. HasAttached (g.F.Feed.told c.loop-stream.feed) (option_copied c.args.kept) ss) (sym c.of.ensures)
     (attached (g.F.Feed.told c.loop-stream.feed) (option_copied c.args.kept) c.in_ok-count.count c.loop-stream.stream c.loop-stream.bound c.loop-stream.lows c.loop-stream.positions.items (omega (arith, c.loop-stream-test.false, c.loop-stream.auto.stream-end))
-    (λ f l. sym (c.unfit_number.ensures f l) ∙ c.in_default.is) c.loop-stream.invariant.fitting)
+    (λ f l. sym (c.unfit_number.ensures f l) ∙ c.in_default.is) c.loop-stream.invariant.fitting c.loop-stream.invariant.tiling)
 
 pub returns-clause-known : goal.returns-clause-known
 returns-clause-known g c = omega (arith, ap length c.of.ensures, length-map c.loop-stream.positions.items stream_of, c.loop-stream.invariant.fitting.number, c.loop-stream.invariant.known, c.loop-stream-test.false, c.loop-stream.auto.stream-end)
