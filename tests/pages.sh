@@ -1,6 +1,6 @@
 #!/usr/bin/env bash
 # The pages stand; each file that docs/definitions.md names is there; each crate of crates.txt has its row in README.md and docs/map.md;
-# each law that a contract of lt_codecs or lt_laws states has its row in docs/definitions.md.
+# each law that a contract of lt_codecs, lt_laws or lt_steps states has its row in docs/definitions.md.
 set -u
 cd "$(dirname "$0")/.." || exit 1
 status=0
@@ -16,7 +16,7 @@ done
 for file in $(grep -oE '`[A-Z][A-Za-z]*\.antt`' docs/definitions.md | tr -d '`' | sort -u); do
   compgen -G "crates/*/specs/$file" > /dev/null || compgen -G "crates/*/proofs/$file" > /dev/null || say "docs/definitions.md names $file, which is not there"
 done
-for crate in lt_codecs lt_laws; do
+for crate in lt_codecs lt_laws lt_steps; do
   for law in $(sed -n 's/^ *ensures { \([A-Za-z]*\).*/\1/p' "crates/$crate/src/lib.rt"); do
     grep -qE "^\|.*\`$law[\`.]" docs/definitions.md || say "docs/definitions.md has no row for $law of $crate"
   done

@@ -19,7 +19,6 @@ use Rattle.lightning_cli.specs.Sessions.{Answered, Belongs, FeedCounts, state_of
 use Rattle.lightning_cli.specs.declared.session.Session.{Session}
 use Rattle.lightning_cli.proofs.AnswerLaws.{done_step, lacks_answered, refusal_answered, step_answered, the_front}
 use Rattle.lightning_cli.proofs.CatalogueChanges.{has_longer}
-use Rattle.lightning_cli.proofs.ScanAnswers.{not_out}
 use Rattle.lightning_cli.proofs.SessionLaws.{refused_or_lacks, refuses_spoken}
 use Rattle.lightning_cli.proofs.TakeLaws.{has_as}
 
@@ -52,7 +51,7 @@ refused_told k g old new c e ends b h stays =
     let fs = (only_header, f.items) ∷ [] in
     let s = state_of old in
     subst (λ (t : State). Answered k k s t c g (refusal_text (view_refusal e))) (sym (stays_state old new stays))
-    (refused_or_lacks (λ r. Answered k k s s c g (refusal_text r)) (refused s c) (λ x d. refusal_answered k s c g fs f.fronts (view_refusal x) (not_out x) d) (lacks_answered k s c g fs f.fronts ends) e h)
+    (refused_or_lacks (λ r. Answered k k s s c g (refusal_text r)) (refused s c) (λ x other d. refusal_answered k s c g fs f.fronts (view_refusal x) other d) (lacks_answered k s c g fs f.fronts ends) e h)
 
 pub told_spoken : (old new : Session) (c : Command) (r : Result Reply Refusal) → IfErr r (λ e. Refuses (refused (state_of old) c) e × Stays old new) → IfErr r IsSpoken
 told_spoken old new c (Ok reply) h = tt

@@ -16,3 +16,4 @@ pub mod CommandLaws
 pub mod ShapedItems
 pub mod ScanAnswers
 pub mod CommandAnswers
+pub mod ScanTexts

@@ -1,18 +1,19 @@
 -- What a scan is answered with: the machine's rows of the source, or its refusal.
 use Rattle.std.proofs.Common.{Bool, List, [], ap, ap₂, append-nil, arith, false, length, ltb-false, ltb-true, refl, subst, sym, true, ℕ, ◌+◌, ◌++◌, ◌<◌, ◌∙◌, ◌∷◌, ◌≡◌, ◌≤◌}
-use Rattle.std.specs.Prelude.{IsTrue, None, Ok, Option, Some, flat_map, nat_lt, unwrap_or, ◌^◌}
+use Rattle.std.specs.Option.{option_map_or}
+use Rattle.std.specs.Prelude.{IsTrue, None, Ok, Option, Some, flat_map, is_none, nat_lt, not, unwrap_or, ◌^◌}
 use Rattle.std.specs.List.{AllByRecursion}
 use Rattle.lt_model.specs.declared.Format.TheVariants as format
 use Rattle.lt_model.specs.Fair.{Feed, checkpoint_of, is_fair}
 use Rattle.lt_model.specs.Kind.{Kind}
 use Rattle.lt_model.specs.Log.{Change, Item, changes_of, is_item}
-use Rattle.lt_model.specs.Machine.{Answer}
+use Rattle.lt_model.specs.Machine.{Answer, registered_named}
 use Rattle.lt_model.specs.OneStream.{HasTaken, only_header, session_after}
 use Rattle.lt_model.specs.Query.{answer}
-use Rattle.lt_model.specs.Reply.{not_safe, out_fault, out_of_memory, picked_kinds, refusal_text, reply_text, row_text, scan_done}
+use Rattle.lt_model.specs.Reply.{no_such_table, no_such_version, not_safe, out_fault, out_of_memory, picked_kinds, refusal_text, reply_text, row_text, scan_done, version_retired}
 use Rattle.lt_model.specs.Row.{snapshot}
 use Rattle.lt_model.specs.Run.{asked_kinds}
-use Rattle.lt_model.specs.Schema.{Catalogue, Column, SchemaVersion, Table, table_named, whole_version}
+use Rattle.lt_model.specs.Schema.{Catalogue, Column, SchemaVersion, Table, first_of, table_named, when, whole_version}
 use Rattle.lt_model.specs.Script.{do_scan, plain_query}
 use Rattle.lt_model.specs.Sound.{source_of}
 use Rattle.lt_model.specs.Conversion.{same_bytes}
@@ -25,7 +26,6 @@ use Rattle.lt_reply.proofs.RowKinds.{all_picked}
 use Rattle.lt_reply.specs.Rows.{row_kinds}
 use Rattle.lt_reply.specs.View.{view_refusal}
 use Rattle.lt_reply.specs.declared.refusal.Refusal.{Refusal}
-use Rattle.lt_reply.specs.declared.refusal.Refusal.TheVariants as refusals
 use Rattle.lt_rows.proofs.WholeAnswers.{below_last}
 use Rattle.lt_rows.specs.Scans.{scan_rows}
 use Rattle.lightning_cli.specs.Answers.{IsLive, named_fault, scan_text}
@@ -35,23 +35,20 @@ use Rattle.lightning_cli.proofs.CommandLaws.{asked, at_named, scan_refused, scan
 
 -- ---- refusals
 
-pub not_out : (e : Refusal) → view_refusal e ≡ out_fault → ⊥
-not_out refusals.Worn e = cc
-not_out (refusals.UnknownTable name) e = cc
-not_out (refusals.UnknownVersion version) e = cc
-not_out (refusals.Retired version) e = cc
-not_out (refusals.LastVersion version) e = cc
-not_out (refusals.BadSchema cause) e = cc
-not_out (refusals.NoStream stream) e = cc
-not_out (refusals.NotSafe part checkpoint) e = cc
-not_out refusals.FeedFault e = cc
-not_out refusals.Memory e = cc
+three_not_out : (a b c : Bool) (name : List ℕ) (v : ℕ) → first_of (when a (no_such_table name) ∷ when b (no_such_version v) ∷ when c (version_retired v) ∷ []) ≡ Some out_fault → ⊥
+three_not_out true b c name v e = absurd cc
+three_not_out false true c name v e = absurd cc
+three_not_out false false true name v e = absurd cc
+three_not_out false false false name v e = absurd cc
+
+named_not_out : (cat : Catalogue) (name : List ℕ) (v : ℕ) → named_fault cat name v ≡ Some out_fault → ⊥
+named_not_out cat name v e = three_not_out (is_none (table_named cat name)) (is_none (registered_named cat name v)) (option_map_or (λ r. not r.live) (registered_named cat name v) false) name v e
 
 pub unnamed_told : (k : FeedCounts) (g : Feed) (cat : Catalogue) (n : ℕ) (items : List Item) (name : List ℕ) (v at : ℕ) (e : Refusal) → HasTaken g cat items → named_fault cat name v ≡ Some (view_refusal e)
     → Answered k k (session_after cat n items) (session_after cat n items) (do_scan (asked name v at)) g (refusal_text (view_refusal e))
 unnamed_told k g cat n items name v at e h f =
     let front = the_front g cat h.stream in
-    refusal_answered k (session_after cat n items) (do_scan (asked name v at)) g ((only_header, front.items) ∷ []) front.fronts (view_refusal e) (not_out e) (scan_unnamed cat n items name v at (view_refusal e) f)
+    refusal_answered k (session_after cat n items) (do_scan (asked name v at)) g ((only_header, front.items) ∷ []) front.fronts (view_refusal e) (λ d. named_not_out cat name v (f ∙ ap Some d)) (scan_unnamed cat n items name v at (view_refusal e) f)
 
 small_number : (cat : Catalogue) (name : List ℕ) (v : ℕ) (version : SchemaVersion) (l : IsLive cat name v version) → l.table.number + 1 < 2 ^ 32
 small_number cat name v version l = below_last l.table.number (fine_table cat l.table.number l.table l.lawful l.numbered).number

@@ -9,7 +9,7 @@ use Rattle.lt_model.specs.Log.{Item}
 use Rattle.lt_model.specs.Machine.{State, refused}
 use Rattle.lt_model.specs.OneStream.{HasTaken, only_header, session_after}
 use Rattle.lt_model.specs.Reply as model
-use Rattle.lt_model.specs.Reply.{Stop, feed_fault, no_such_version, out_of_memory, pump_done, refusal_text, reply_text, version_retired}
+use Rattle.lt_model.specs.Reply.{Stop, feed_fault, no_such_version, out_fault, out_of_memory, pump_done, refusal_text, reply_text, version_retired}
 use Rattle.lt_model.specs.Schema.{Became, Catalogue, IsCatalogue, Registered, RetireFault, SchemaVersion, Table, first_of, as_it_was, is_live, registered, retire_fault, schema_version, table_named, table_numbered, then_retired, when, whole_version, without_version}
 use Rattle.lt_model.specs.Script.{Command, do_pump, do_retire}
 use Rattle.lt_laws.proofs.AnswerLaws.{named_is_numbered}
@@ -44,8 +44,14 @@ refuses_to o p f (refusals.Retired version) h = (h.0, f _ h.1)
 refuses_to o p f (refusals.LastVersion version) h = (h.0, f _ h.1)
 refuses_to o p f (refusals.BadSchema cause) h = (h.0, f _ h.1)
 refuses_to o p f (refusals.NoStream stream) h = (h.0, f _ h.1)
+refuses_to o p f (refusals.BadColumn name) h = (h.0, f _ h.1)
+refuses_to o p f (refusals.WrongType name) h = (h.0, f _ h.1)
+refuses_to o p f (refusals.KeyTooLong len) h = (h.0, f _ h.1)
 refuses_to o p f (refusals.NotSafe part checkpoint) h = (h.0, f _ h.1)
+refuses_to o p f (refusals.AtEdge part) h = (h.0, f _ h.1)
+refuses_to o p f refusals.TooManyParts h = (h.0, f _ h.1)
 refuses_to o p f refusals.FeedFault h = (h.0, f _ h.1)
+refuses_to o p f refusals.OutFault h = h
 refuses_to o p f refusals.Memory h = tt
 
 pub refuses_spoken : (o : Option model.Refusal) (e : Refusal) → Refuses o e → IsSpoken e
@@ -56,21 +62,33 @@ refuses_spoken o (refusals.Retired version) h = h.0
 refuses_spoken o (refusals.LastVersion version) h = h.0
 refuses_spoken o (refusals.BadSchema cause) h = h.0
 refuses_spoken o (refusals.NoStream stream) h = h.0
+refuses_spoken o (refusals.BadColumn name) h = h.0
+refuses_spoken o (refusals.WrongType name) h = h.0
+refuses_spoken o (refusals.KeyTooLong len) h = h.0
 refuses_spoken o (refusals.NotSafe part checkpoint) h = h.0
+refuses_spoken o (refusals.AtEdge part) h = h.0
+refuses_spoken o refusals.TooManyParts h = h.0
 refuses_spoken o refusals.FeedFault h = h.0
+refuses_spoken o refusals.OutFault h = absurd h
 refuses_spoken o refusals.Memory h = tt
 
 -- memory alone is free
-pub refused_or_lacks : (P : model.Refusal → Type 0) (o : Option model.Refusal) → ((e : Refusal) → o ≡ Some (view_refusal e) → P (view_refusal e)) → P out_of_memory → (e : Refusal) → Refuses o e → P (view_refusal e)
-refused_or_lacks P o f m refusals.Worn h = f refusals.Worn h.1
-refused_or_lacks P o f m (refusals.UnknownTable name) h = f (refusals.UnknownTable name) h.1
-refused_or_lacks P o f m (refusals.UnknownVersion version) h = f (refusals.UnknownVersion version) h.1
-refused_or_lacks P o f m (refusals.Retired version) h = f (refusals.Retired version) h.1
-refused_or_lacks P o f m (refusals.LastVersion version) h = f (refusals.LastVersion version) h.1
-refused_or_lacks P o f m (refusals.BadSchema cause) h = f (refusals.BadSchema cause) h.1
-refused_or_lacks P o f m (refusals.NoStream stream) h = f (refusals.NoStream stream) h.1
-refused_or_lacks P o f m (refusals.NotSafe part checkpoint) h = f (refusals.NotSafe part checkpoint) h.1
-refused_or_lacks P o f m refusals.FeedFault h = f refusals.FeedFault h.1
+pub refused_or_lacks : (P : model.Refusal → Type 0) (o : Option model.Refusal) → ((e : Refusal) → (view_refusal e ≡ out_fault → ⊥) → o ≡ Some (view_refusal e) → P (view_refusal e)) → P out_of_memory → (e : Refusal) → Refuses o e → P (view_refusal e)
+refused_or_lacks P o f m refusals.Worn h = f refusals.Worn (λ d. cc) h.1
+refused_or_lacks P o f m (refusals.UnknownTable name) h = f (refusals.UnknownTable name) (λ d. cc) h.1
+refused_or_lacks P o f m (refusals.UnknownVersion version) h = f (refusals.UnknownVersion version) (λ d. cc) h.1
+refused_or_lacks P o f m (refusals.Retired version) h = f (refusals.Retired version) (λ d. cc) h.1
+refused_or_lacks P o f m (refusals.LastVersion version) h = f (refusals.LastVersion version) (λ d. cc) h.1
+refused_or_lacks P o f m (refusals.BadSchema cause) h = f (refusals.BadSchema cause) (λ d. cc) h.1
+refused_or_lacks P o f m (refusals.NoStream stream) h = f (refusals.NoStream stream) (λ d. cc) h.1
+refused_or_lacks P o f m (refusals.BadColumn name) h = f (refusals.BadColumn name) (λ d. cc) h.1
+refused_or_lacks P o f m (refusals.WrongType name) h = f (refusals.WrongType name) (λ d. cc) h.1
+refused_or_lacks P o f m (refusals.KeyTooLong len) h = f (refusals.KeyTooLong len) (λ d. cc) h.1
+refused_or_lacks P o f m (refusals.NotSafe part checkpoint) h = f (refusals.NotSafe part checkpoint) (λ d. cc) h.1
+refused_or_lacks P o f m (refusals.AtEdge part) h = f (refusals.AtEdge part) (λ d. cc) h.1
+refused_or_lacks P o f m refusals.TooManyParts h = f refusals.TooManyParts (λ d. cc) h.1
+refused_or_lacks P o f m refusals.FeedFault h = f refusals.FeedFault (λ d. cc) h.1
+refused_or_lacks P o f m refusals.OutFault h = absurd h
 refused_or_lacks P o f m refusals.Memory h = m
 
 pub stays_itself : (s : Session) → Stays s s

@@ -23,8 +23,8 @@ use Rattle.lightning_cli.specs.Pumps.{FoundAhead, IsAhead, IsWhole}
 use Rattle.lt_fair.specs.declared.refusal.Unfair as code
 use Rattle.lightning_cli.specs.Steps.{Stepped, TakesOne}
 use Rattle.lightning_cli.specs.Stops.{Pumped, PumpedSome, TakesMore}
-use Rattle.lt_reply.specs.View.{view_stop}
-use Rattle.lt_reply.specs.declared.stop.Stop.{Stop}
+use Rattle.lt_pump.specs.View.{view_stop}
+use Rattle.lt_pump.specs.declared.stop.Stop.{Stop}
 
 -- ---- a longer feed
 

@@ -47,9 +47,10 @@ abbrev pub Finds : Catalogue → List ℕ → ℕ → Result (Bor SchemaVersion)
 Finds cat name v (Ok version) = IsLive cat name v (view_version version.now)
 Finds cat name v (Err e) = named_fault cat name v ≡ Some (view_refusal e)
 
--- A refusal is the machine's, if memory did not run out.
+-- A refusal is the machine's, if memory did not run out. A row sink's fault is none.
 abbrev pub Refuses : Option model.Refusal → Refusal → Type 0
 Refuses o refusals.Memory = ⊤
+Refuses o refusals.OutFault = ⊥
 Refuses o e = IsSpoken e × (o ≡ Some (view_refusal e))
 
 abbrev pub text_refusal : List ℕ → Option model.Refusal

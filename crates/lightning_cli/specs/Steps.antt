@@ -5,9 +5,9 @@ use Rattle.lt_model.specs.Log.{Item}
 use Rattle.lt_model.specs.Machine.{StopsBy}
 use Rattle.lt_model.specs.OneStream.{standing}
 use Rattle.lt_model.specs.Schema.{Catalogue}
-use Rattle.lt_reply.specs.View.{view_stop}
+use Rattle.lt_pump.specs.View.{view_stop}
 use Rattle.lightning_cli.specs.Pumps.{IsAhead}
-use Rattle.lt_reply.specs.declared.stop.Stop.{Stop}
+use Rattle.lt_pump.specs.declared.stop.Stop.{Stop}
 
 -- one item is taken, or none where there is a reason to stop
 abbrev pub TakesOne : List Item → List Item → Option Stop → Type 0

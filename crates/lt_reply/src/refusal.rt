@@ -28,10 +28,21 @@ pub enum Refusal {
     LastVersion { version: u32 },
     BadSchema { cause: Cause },
     NoStream { stream: u32 },
+    /// The first name that is no column; or the word for literals of which there are too many or too few: for a split it is `key`.
+    BadColumn { name: Text },
+    /// The column of the first literal that does not fit.
+    WrongType { name: Text },
+    /// The bytes of the key are so many.
+    KeyTooLong { len: usize },
     /// The first partition of the query with a checkpoint below the timestamp, and that checkpoint.
     NotSafe { part: u32, checkpoint: Ts },
+    /// The key is the low bound of that partition.
+    AtEdge { part: u32 },
+    TooManyParts,
     /// A call of the feed failed in this command.
     FeedFault,
+    /// A call of the row sink failed in this command.
+    OutFault,
     Memory,
 }
 

@@ -36,7 +36,7 @@ pub fn rows_text(alloc: Global, version: &SchemaVersion, rows: &[Row]) -> Result
     Ok(text)
 }
 
-/// Appends a row's line: each value as its column's kind shows it.
+/// Appends a row's line: each value as its column's kind shows it. After an `Err` some first bytes of it may stand.
 #[tactic(auto, unfolding(lt_model::specs::Reply::row_text))]
 pub fn put_row(
     alloc: Global,

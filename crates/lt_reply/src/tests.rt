@@ -92,6 +92,96 @@ fn retirements(rt: HostRuntime) -> Result<(), Fail> {
     Ok(())
 }
 
+#[test]
+fn splits(rt: HostRuntime) -> Result<(), Fail> {
+    let alloc = rt.alloc();
+    let line = string(reply_text(alloc, &Reply::Split { upper: 1 })?)?;
+    assert_eq!(rt; line.as_str(), "ok split 1\n");
+    Ok(())
+}
+
+/// A fresh store with one stream of 18 bytes.
+const FRESH: &str = "minimum 0
+partition 0 low - resume 0 checkpoint 0 pending 0 deltas 0
+stream 0 offset 18 checkpoint 0
+job none
+ok status
+";
+
+#[test]
+fn status_of_a_fresh_store(rt: HostRuntime) -> Result<(), Fail> {
+    let alloc = rt.alloc();
+    let part = PartLine {
+        low: List::new(alloc),
+        resume: 0,
+        checkpoint: 0,
+        pending: 0,
+        deltas: 0,
+    };
+    let stream = StreamLine {
+        stream: 0,
+        offset: 18,
+        checkpoint: 0,
+    };
+    let reply = Reply::Status {
+        minimum: 0,
+        parts: List::from_vec(Vec::from_array(alloc, [part])?),
+        streams: List::from_vec(Vec::from_array(alloc, [stream])?),
+    };
+    assert_eq!(rt; string(reply_text(alloc, &reply)?)?.as_str(), FRESH);
+    Ok(())
+}
+
+const TWO_OF_EACH: &str = "minimum 3
+partition 0 low - resume 8 checkpoint 9 pending 1 deltas 2
+partition 1 low 000000018000000000000003 resume 5 checkpoint 6 pending 0 deltas 1
+stream 0 offset 243 checkpoint 5
+stream 1 offset 18446744073709551615 checkpoint 9223372036854775807
+job none
+ok status
+";
+
+/// Two partitions, the upper one from key 3 of table 1 on.
+fn two_parts(alloc: Global) -> Result<PartLines, Fail> {
+    let lower = PartLine {
+        low: List::new(alloc),
+        resume: 8,
+        checkpoint: 9,
+        pending: 1,
+        deltas: 2,
+    };
+    let upper = PartLine {
+        low: List::from_slice(alloc, &[0, 0, 0, 1, 128, 0, 0, 0, 0, 0, 0, 3])?,
+        resume: 5,
+        checkpoint: 6,
+        pending: 0,
+        deltas: 1,
+    };
+    Ok(List::from_vec(Vec::from_array(alloc, [lower, upper])?))
+}
+
+#[test]
+fn status_of_two_partitions_and_streams(rt: HostRuntime) -> Result<(), Fail> {
+    let alloc = rt.alloc();
+    let first = StreamLine {
+        stream: 0,
+        offset: 243,
+        checkpoint: 5,
+    };
+    let second = StreamLine {
+        stream: 1,
+        offset: 18446744073709551615,
+        checkpoint: 9223372036854775807,
+    };
+    let reply = Reply::Status {
+        minimum: 3,
+        parts: two_parts(alloc)?,
+        streams: List::from_vec(Vec::from_array(alloc, [first, second])?),
+    };
+    assert_eq!(rt; string(reply_text(alloc, &reply)?)?.as_str(), TWO_OF_EACH);
+    Ok(())
+}
+
 fn refused(alloc: Global, refusal: &Refusal) -> Result<String, Fail>
     requires { IsSpoken refusal.now }
 {
@@ -110,23 +200,31 @@ fn refusal(which: usize) -> Refusal
         2 => Refusal::Retired { version: 2 },
         3 => Refusal::LastVersion { version: 3 },
         4 => Refusal::NoStream { stream: 4 },
-        5 => Refusal::NotSafe {
+        5 => Refusal::KeyTooLong { len: 4097 },
+        6 => Refusal::NotSafe {
             part: 0,
             checkpoint: 7,
         },
-        6 => Refusal::FeedFault,
+        7 => Refusal::AtEdge { part: 1 },
+        8 => Refusal::TooManyParts,
+        9 => Refusal::FeedFault,
+        10 => Refusal::OutFault,
         _ => Refusal::Memory,
     }
 }
 
-const REFUSALS: [&str; 8] = [
+const REFUSALS: [&str; 12] = [
     "refused E33 Worn\n",
     "refused E4 UnknownVersion 4294967295\n",
     "refused E5 Retired 2\n",
     "refused E28 LastVersion 3\n",
     "refused E7 NoStream 4\n",
+    "refused E27 KeyTooLong 4097\n",
     "refused E13 NotSafe 0 7\n",
+    "refused E16 AtEdge 1\n",
+    "refused E17 TooManyParts\n",
     "refused E23 FeedFault\n",
+    "refused E29 OutFault\n",
     "refused E26 Memory\n",
 ];
 
@@ -139,12 +237,27 @@ fn refusals(rt: HostRuntime) -> Result<(), Fail> {
     Ok(())
 }
 
+/// The refusals that keep a name, in the order of their words.
+fn named_refusal(name: Text, which: usize) -> Refusal
+    ensures { IsSpoken result }
+{
+    match which {
+        0 => Refusal::UnknownTable { name },
+        1 => Refusal::BadColumn { name },
+        _ => Refusal::WrongType { name },
+    }
+}
+
+const NAMED_REFUSALS: [&str; 3] = ["E3 UnknownTable", "E10 BadColumn", "E11 WrongType"];
+
 #[test]
-fn unknown_table(rt: HostRuntime) -> Result<(), Fail> {
+fn named_refusals(rt: HostRuntime) -> Result<(), Fail> {
     let alloc = rt.alloc();
-    let unknown = Refusal::UnknownTable { name: name(alloc)? };
-    let wanted = format!(in alloc; "refused E3 UnknownTable {NAME}\n")?;
-    assert_eq!(rt; refused(alloc, &unknown)?, wanted);
+    for (which, words) in NAMED_REFUSALS.iter().enumerate() {
+        let wanted = format!(in alloc; "refused {words} {NAME}\n")?;
+        let refusal = named_refusal(name(alloc)?, which);
+        assert_eq!(rt; refused(alloc, &refusal)?, wanted);
+    }
     Ok(())
 }
 

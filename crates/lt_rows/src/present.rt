@@ -1,15 +1,14 @@
 //! The rows that are present: the fold of a table's changes up to a moment.
 
-ghost use Rattle.std.specs.Prelude.{◌≡◌, [], map, IfOk, OnOk};
+ghost use Rattle.std.specs.Prelude.{◌≡◌, [], IfOk, OnOk};
 ghost use Rattle.lt_core.specs.View.{view_parts, view_settings};
 ghost use Rattle.lt_model.specs.declared.Op.TheVariants as ops;
-ghost use Rattle.lt_model.specs.Log.{changes_in, changes_of};
-ghost use Rattle.lt_records.specs.View.{view_change, view_item};
-ghost use Rattle.lt_rows.specs.Present.{laid_over, present_by, rows_by, updated, with_change};
-ghost use Rattle.lt_rows.specs.View.{view_rows, view_set};
+ghost use Rattle.lt_records.specs.View.{view_change};
+ghost use Rattle.lt_rows.specs.Present.{laid_over, present_by, rows_by, updated, with_change, with_counted};
+ghost use Rattle.lt_rows.specs.View.{view_changes, view_rows, view_set};
 
 use lt_core::{KeyBytes, KeyParts, Memory, Op, Settings, Ts, Value, encode_prefix};
-use lt_records::{ChangeRecord, LogRecord};
+use lt_records::ChangeRecord;
 use std::alloc::Global;
 use std::collections::BTreeMap;
 
@@ -29,34 +28,33 @@ pub(crate) type Rows<'a> = BTreeMap<KeyBytes, Present<'a>>;
 /// The rows that the changes of a table up to a timestamp leave.
 pub(crate) fn present_at<'a>(
     alloc: Global,
-    records: &'a [LogRecord],
+    changes: &[&'a ChangeRecord],
     table: u32,
     at: Ts,
 ) -> Result<Rows<'a>, Memory>
-    ensures { IfOk result (λ rows. view_rows rows.entries ≡ present_by table at [] (changes_of (map view_item records.now))) }
+    ensures { IfOk result (λ rows. view_rows rows.entries ≡ present_by table at [] (view_changes changes.now)) }
 {
     let mut rows = BTreeMap::new(alloc);
-    for record in records {
-        take_record(alloc, &mut rows, record, table, at)?;
+    for change in changes {
+        take_counted(alloc, &mut rows, change, table, at)?;
     }
     Ok(rows)
 }
 
-/// Goes on by a change of the table up to the timestamp. Any other record changes no row.
-fn take_record<'a>(
+/// Goes on by a change of the table up to the timestamp. Any other changes no row.
+fn take_counted<'a>(
     alloc: Global,
     rows: &mut Rows<'a>,
-    item: &'a LogRecord,
+    change: &'a ChangeRecord,
     table: u32,
     at: Ts,
 ) -> Result<(), Memory>
-    ensures { OnOk result (view_rows rows.new.entries ≡ present_by table at (view_rows rows.old.entries) (changes_in (view_item item.now))) }
+    ensures { OnOk result (view_rows rows.new.entries ≡ with_counted table at (view_rows rows.old.entries) (view_change change.now)) }
 {
-    match item {
-        LogRecord::Change(change) if change.table == table && change.ts <= at => {
-            take_change(alloc, rows, change)
-        }
-        _ => Ok(()),
+    if change.table == table && change.ts <= at {
+        take_change(alloc, rows, change)
+    } else {
+        Ok(())
     }
 }
 

@@ -11,14 +11,14 @@ use crate::reading::read_rows;
 use crate::rows_at;
 use crate::tests::story::{ROWS, catalogue, parsed, story};
 use lt_core::{Fields, List, Row, Ts, Value};
-use lt_records::LogRecord;
+use lt_records::ChangeRecord;
 use lt_schema::Catalogue;
 use std::alloc::Global;
 use std::fmt::Write;
 use std::test::Fail;
 
-/// What `rows_at` requires can be met.
-fn required_of_two_changes()
+/// What the clause of `rows_at` supposes can be met.
+fn supposed_of_two_changes()
     ensures shaped { AreShaped one_table (inserted ∷ updated ∷ []) }
     ensures in_time { RiseByKey (inserted ∷ updated ∷ []) }
 {}
@@ -27,14 +27,18 @@ fn required_of_two_changes()
 fn shown_rows(
     alloc: Global,
     catalogue: &Catalogue,
-    records: &[LogRecord],
+    changes: &[ChangeRecord],
     version: u32,
     at: Ts,
 ) -> Result<String, Fail> {
     let Some(version) = catalogue.get(1, version) else {
         return Err(Fail::new("no such version"));
     };
-    let present = present_at(alloc, records, version.number, at)?;
+    let mut list = Vec::new(alloc);
+    for change in changes {
+        list.push(change)?;
+    }
+    let present = present_at(alloc, &list, version.number, at)?;
     let rows = read_rows(alloc, &present, catalogue, version)?;
     shown(alloc, &rows)
 }
@@ -94,7 +98,7 @@ fn write_primitive(out: &mut String, value: &Value) -> Result<(), Fail> {
 fn worked_rows(rt: HostRuntime) -> Result<(), Fail> {
     let alloc = rt.alloc();
     let catalogue = catalogue(alloc)?;
-    let records = story(alloc)?;
+    let changes = story(alloc)?;
     for line in ROWS.lines() {
         let Some((asked, wanted)) = line.split_once(": ") else {
             continue;
@@ -102,7 +106,7 @@ fn worked_rows(rt: HostRuntime) -> Result<(), Fail> {
         let Some((version, at)) = asked.trim_start_matches("version ").split_once(" at ") else {
             continue;
         };
-        let found = shown_rows(alloc, &catalogue, &records, parsed(version)?, parsed(at)?)?;
+        let found = shown_rows(alloc, &catalogue, &changes, parsed(version)?, parsed(at)?)?;
         assert_eq!(rt; found.as_str(), wanted, "{asked}");
     }
     Ok(())

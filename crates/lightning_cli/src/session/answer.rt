@@ -1,15 +1,17 @@
 //! What a session does at each command, and what it answers.
 
-ghost use Rattle.std.specs.Prelude.{◌≡◌, ◌<◌, ◌-◌, ◌^◌, None, Ok, Some, IfErr, IfOk, OnOk};
+ghost use Rattle.std.specs.Prelude.{◌≡◌, ◌++◌, ◌<◌, ◌-◌, ◌^◌, None, Ok, Some, IfErr, IfOk, OnOk, map};
 ghost use Rattle.lt_model.specs.Fair.{Feed as Streams};
-ghost use Rattle.lt_model.specs.Log.{changes_of};
+ghost use Rattle.lt_model.specs.Log.{changes_in, changes_of};
 ghost use Rattle.lt_model.specs.Machine.{added_text, names_version, refused};
 ghost use Rattle.lt_model.specs.Reply.{retire_done, schema_done};
 ghost use Rattle.lt_model.specs.Run.{result_text};
 ghost use Rattle.lt_model.specs.Schema.{Table, schema_fault, table_numbered, with_version};
 ghost use Rattle.lt_model.specs.SchemaText.{version_of_text};
 ghost use Rattle.lt_model.specs.Script.{do_pump, do_retire, do_scan, do_schema, plain_query};
+ghost use Rattle.lt_records.specs.View.{view_item};
 ghost use Rattle.lt_reply.specs.View.{IsSpoken, view_reply};
+ghost use Rattle.lt_rows.specs.View.{view_changes};
 ghost use Rattle.lt_schema.specs.View.{view_version};
 ghost use Rattle.lightning_cli.specs.Answers.{Commits, Finds, Refuses, Retires, Stays, scan_text, text_refusal, version_refusal, view_result};
 ghost use Rattle.lightning_cli.specs.Sessions.{Answered, Belongs, FeedCounts, FeedGoes, state_of, taken};
@@ -18,6 +20,7 @@ use crate::session::Session;
 use crate::session::reading::PumpFault;
 use lt_core::{Blob, Memory, Text, Ts};
 use lt_io::Feed;
+use lt_records::{ChangeRecord, LogRecord};
 use lt_reply::{Cause, Refusal, Reply, refusal_text, reply_text, rows_text};
 use lt_rows::rows_at;
 use lt_schema::{RetireRefusal, SchemaRefusal, SchemaVersion};
@@ -165,9 +168,38 @@ impl Session {
     fn scan(&self, alloc: Global, version: &SchemaVersion, at: Ts) -> Result<Blob, Memory>
         ensures { IfOk result (λ text. (t : Table) → table_numbered self.now.catalogue version.now.number ≡ Some t → text ≡ scan_text t (view_version version.now) (changes_of (taken self.now)) at) }
     {
-        let rows = rows_at(alloc, self.items(), &self.catalogue, version, at)?;
+        let changes = self.changes(alloc)?;
+        let rows = rows_at(alloc, &changes, &self.catalogue, version, at)?;
         rows_text(alloc, version, rows.as_slice())
     }
+
+    /// The changes among the items that were taken, in order.
+    fn changes(&self, alloc: Global) -> Result<Vec<&ChangeRecord>, Memory>
+        ensures { IfOk result (λ changes. view_changes changes.items ≡ changes_of (taken self.now)) }
+    {
+        changes_among(alloc, self.items())
+    }
+}
+
+/// The changes among items, in order.
+fn changes_among(alloc: Global, items: &[LogRecord]) -> Result<Vec<&ChangeRecord>, Memory>
+    ensures { IfOk result (λ changes. view_changes changes.items ≡ changes_of (map view_item items.now)) }
+{
+    let mut changes = Vec::new(alloc);
+    for item in items {
+        add_change(&mut changes, item)?;
+    }
+    Ok(changes)
+}
+
+/// Adds an item's change to a list, where it is one.
+fn add_change<'a>(changes: &mut Vec<&'a ChangeRecord>, item: &'a LogRecord) -> Result<(), Memory>
+    ensures { OnOk result (view_changes changes.new.items ≡ view_changes changes.old.items ++ changes_in (view_item item.now)) }
+{
+    if let LogRecord::Change(change) = item {
+        changes.push(change)?;
+    }
+    Ok(())
 }
 
 /// The version that a text spells.

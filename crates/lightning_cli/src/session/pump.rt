@@ -8,7 +8,7 @@ ghost use Rattle.lt_model.specs.Log.{is_item, spelled};
 ghost use Rattle.lt_model.specs.OneStream.{only_header};
 ghost use Rattle.lt_fair.specs.View.{header_of, point_in, view_unfair};
 ghost use Rattle.lt_records.specs.View.{view_item};
-ghost use Rattle.lt_reply.specs.View.{view_stop};
+ghost use Rattle.lt_pump.specs.View.{view_stop};
 ghost use Rattle.lightning_cli.specs.Pumps.{IsAhead, left_of};
 ghost use Rattle.lightning_cli.specs.Sessions.{Belongs, FeedGoes, taken};
 ghost use Rattle.lightning_cli.specs.Steps.{Stepped, TakesOne};

@@ -3,12 +3,12 @@
 ghost use Rattle.std.specs.Prelude.{◌≡◌, string_bytes, IfOk};
 ghost use Rattle.lt_model.specs.Reply.{bad_text, stop_text, unfair_text};
 ghost use Rattle.lt_fair.specs.View.{view_unfair};
-ghost use Rattle.lt_reply.specs.View.{view_stop};
+ghost use Rattle.lt_pump.specs.View.{view_stop};
 
-use crate::stop::Stop;
 use lt_core::Memory;
 use lt_fair::Unfair;
 use lt_model::BadFrame;
+use lt_pump::Stop;
 use std::alloc::Global;
 
 /// Why a pump stops.

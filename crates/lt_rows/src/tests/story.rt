@@ -3,7 +3,7 @@
 use lt_core::{
     FieldKinds, Fields, KeyKind, KeyPart, KeyParts, Kind, List, Op, Rank, Settings, Text, Value,
 };
-use lt_records::{ChangeRecord, LogRecord};
+use lt_records::ChangeRecord;
 use lt_schema::{Catalogue, Column, Columns, KeyColumn, SchemaVersion};
 use std::alloc::Global;
 use std::str::{FromStr, SplitWhitespace};
@@ -139,10 +139,10 @@ fn change(alloc: Global, line: &str) -> Result<ChangeRecord, Fail> {
     })
 }
 
-pub fn story(alloc: Global) -> Result<Vec<LogRecord>, Fail> {
+pub fn story(alloc: Global) -> Result<Vec<ChangeRecord>, Fail> {
     let mut all = Vec::new(alloc);
     for line in STORY.lines() {
-        all.push(LogRecord::Change(change(alloc, line)?))?;
+        all.push(change(alloc, line)?)?;
     }
     Ok(all)
 }

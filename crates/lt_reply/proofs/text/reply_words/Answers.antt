@@ -1,6 +1,7 @@
 use Rattle.std.proofs.Common.{ap, sym, ◌∙◌}
 use Rattle.lt_model.specs.Reply.{reply_text}
-use Rattle.lt_reply.specs.View.{view_reply, view_stop}
+use Rattle.lt_pump.specs.View.{view_stop}
+use Rattle.lt_reply.specs.View.{view_reply}
 use Rattle.lt_reply.specs.declared.reply.Reply.{Reply}
 use Rattle.lt_reply.proofs.Words.{pump_line}
 use Rattle.lt_reply.proofs.text.reply_words.Goals as goal

@@ -2,7 +2,7 @@ use Rattle.std.proofs.Common.{[], ap, append-nil, arith, length, refl, sym, â—Œâ
 use Rattle.std.proofs.lemmas.Result.{err_from_is_err_and}
 use Rattle.lightning_cli.specs.Pumps.{left_of}
 use Rattle.lightning_cli.specs.Sessions.{taken}
-use Rattle.lt_reply.specs.View.{view_stop}
+use Rattle.lt_pump.specs.View.{view_stop}
 use Rattle.lightning_cli.proofs.FeedLaws.{goes_itself, goes_then}
 use Rattle.lightning_cli.proofs.PumpLaws.{mid_told}
 use Rattle.lightning_cli.proofs.OutLaws.{on_err}

@@ -1,5 +1,5 @@
 use Rattle.std.proofs.Common.{Err, ap, ◌∙◌}
-use Rattle.lt_reply.specs.View.{view_stop}
+use Rattle.lt_pump.specs.View.{view_stop}
 use Rattle.lightning_cli.proofs.SessionLaws.{pump_fault_told, pump_lack_told, pump_told}
 use Rattle.lightning_cli.proofs.session.Session.take.Goals as goal
 

@@ -6,7 +6,7 @@ use Rattle.lt_model.specs.Examples.{inserted, updated}
 use Rattle.lt_model.specs.Key.{same_key}
 use Rattle.lt_model.specs.Log.{Change, change_key}
 use Rattle.lt_model.specs.Value.{rises_strictly}
-use Rattle.lt_rows.proofs.tests.required_of_two_changes.Goals as goal
+use Rattle.lt_rows.proofs.tests.supposed_of_two_changes.Goals as goal
 
 rise_by : (a b : Bool) → rises_strictly (map (λ (c : Change). c.ts) (cond a (inserted ∷ cond b (updated ∷ []) []) (cond b (updated ∷ []) []))) ≡ true
 rise_by true true = refl

@@ -1,0 +1,6 @@
+pub mod Lists
+pub mod Names
+pub mod Puts
+pub mod Splits
+pub mod Takes
+pub mod Tested

@@ -1,0 +1,9 @@
+//! Who takes the rows of a scan.
+#![tactic(auto)]
+
+mod row_sink;
+#[cfg(test)]
+mod tests;
+
+pub use lt_core::{Memory, Row};
+pub use row_sink::{RowRefusal, RowSink};
