@@ -1,17 +1,16 @@
 -- The program over one stream: which lines it answers, the session that a run begins with, and how it ends.
-use Rattle.std.specs.Prelude.{Bool, List, None, [], codes, false, if◌then◌else◌, is_none, length, nat_le, ℕ, ◌&&◌, ◌++◌, ◌==◌, ◌^◌, ◌∷◌, ◌≡◌, ◌||◌, true}
-use Rattle.lt_model.specs.Conversion.{same_bytes}
+use Rattle.std.specs.Prelude.{Bool, List, None, [], false, if◌then◌else◌, length, nat_le, ℕ, ◌&&◌, ◌++◌, ◌==◌, ◌^◌, ◌∷◌, ◌≡◌, true}
 use Rattle.lt_model.specs.Key.{all_keys}
 use Rattle.lt_model.specs.Schema.{Catalogue}
 use Rattle.lt_model.specs.Log.{Header, Item}
 use Rattle.lt_model.specs.Fair.{Feed, Grows, HasHeader}
-use Rattle.lt_model.specs.Query.{Pred, Query, all_rows, both, compares, either, is_null, negated}
 use Rattle.lt_model.specs.Script.{Command, Line, bad_line, do_pump, do_retire, do_scan, do_schema, line_of, skipped, spells_command, words}
 use Rattle.lt_model.specs.Disk.{Rose}
 use Rattle.lt_model.specs.Machine.{State, StreamAt, Takes, behind_header, fresh, moved_by, opened, with_items}
 use Rattle.lt_model.specs.Run.{CauseOf, Counts, HasBegun, IsOver, Rules, StartFault, start_feed, start_mismatch, usage_text}
 use Rattle.lt_model.specs.Program.{IsFront, RunEnds, Stops, Told, Trace}
 use Rattle.lt_model.specs.Outside.{Causes, caused_by}
+pub use Rattle.lt_model.specs.InMemory.{asks_all, is_all_rows, is_run, is_status}
 use Rattle.lt_model.specs.declared.Format.TheVariants as format
 
 -- ---- the session that a run begins with
@@ -48,17 +47,6 @@ pub record HasTaken (feed : Feed) (cat : Catalogue) (items : List Item) : Type 0
 
 -- ---- lines
 
-abbrev pub is_all_rows : Pred → Bool
-is_all_rows all_rows = true
-is_all_rows (both p q) = false
-is_all_rows (either p q) = false
-is_all_rows (negated p) = false
-is_all_rows (is_null name) = false
-is_all_rows (compares op name l) = false
-
-abbrev pub asks_all : Query → Bool
-asks_all q = is_none q.columns && is_none q.from && is_none q.to && is_none q.after && is_none q.limit && is_all_rows q.filter
-
 -- `schema JSON`, `retire TABLE V`, `pump 0 N` and `scan TABLE V T`; options, if only empty ones, are not read
 abbrev pub is_answered : List ℕ → Command → Bool
 is_answered line (do_schema t) = true
@@ -88,12 +76,6 @@ only_rules = record { reads = line_read; cause = only_cause }
 
 -- ---- how the program ends
 
--- the one word `run`
-abbrev pub is_run : List (List ℕ) → Bool
-is_run [] = false
-is_run (w ∷ []) = same_bytes w (codes "run")
-is_run (w ∷ v ∷ ws) = false
-
 -- why no session begins: the feed failed, or is not the one stream
 abbrev pub NotBegun : Told → Told → StartFault → Type 0
 NotBegun old new start_feed = Rose old.counts.feed new.counts.feed
@@ -114,7 +96,3 @@ pub record Did (words : List (List ℕ)) (old new : Told) (status : ℕ) : Type 
   pub took : old.script ≡ trace.taken ++ new.script
   pub wrote : new.written ≡ old.written ++ trace.written
   pub ends : Ends words old new trace status
-
--- the statuses that this program ends with
-abbrev pub is_status : ℕ → Bool
-is_status n = n == 0 || n == 2 || n == 3 || n == 4 || n == 7 || n == 8 || n == 9 || n == 10
