@@ -1,0 +1,173 @@
+-- What commands are answered with: results, the version that a command names, retirements.
+use Rattle.std.proofs.Common.{Bool, List, [], ap, false, not, refl, subst, sym, true, ℕ, ◌∙◌, ◌∷◌, ◌≡◌}
+use Rattle.std.specs.Prelude.{Err, IfErr, IfOk, None, Ok, Option, Result, Some, is_none, option_and_then, option_map, ◌-◌, ◌==◌, ◌^◌}
+use Rattle.std.specs.Option.{option_map_or}
+use Rattle.std.specs.Result.{IsErrAnd}
+use Rattle.lt_model.specs.Machine.{StreamAt, refused}
+use Rattle.lt_model.specs.Outside.{Memory}
+use Rattle.lt_model.specs.Reply as model
+use Rattle.lt_model.specs.Reply.{no_such_version, out_of_memory, version_retired}
+use Rattle.lt_model.specs.Schema.{Catalogue, IsCatalogue, Registered, RetireFault, SchemaVersion, Table, first_of, is_live, registered, retire_fault, schema_version, table_named, table_numbered, when, whole_version}
+use Rattle.lt_model.specs.Script.{do_retire}
+use Rattle.lt_laws.proofs.AnswerLaws.{named_is_numbered}
+use Rattle.lt_parts.specs.declared.entry.PartEntry.{PartEntry}
+use Rattle.lt_reply.specs.View.{IsSpoken, view_refusal}
+use Rattle.lt_reply.specs.declared.refusal.Refusal.{Refusal}
+use Rattle.lt_reply.specs.declared.refusal.Refusal.TheVariants as refusals
+use Rattle.lt_engine.specs.Answers.{IsLive, named_fault}
+use Rattle.lt_engine.specs.State.{state_with}
+use Rattle.lt_engine.specs.Steps.{Refuses}
+use Rattle.lt_engine.proofs.Refusals.{retire_is, retire_refusal}
+
+-- ---- results
+
+-- what holds of a text holds of what is answered with it
+pub answers_with : {A E : Type 0} (r : Result A E) (a : A) (P : A → Type 0) → IfOk r (λ b. b ≡ a) → P a → IfOk r P
+answers_with (Ok b) a P h p = subst P (sym h) p
+answers_with (Err e) a P h p = tt
+
+-- what holds of an error holds of the result that hands it on
+pub err_is : {A E : Type 0} (r : Result A E) (x : E) (P : E → Type 0) → IsErrAnd r (λ e. e ≡ x) → P x → IfErr r P
+err_is (Ok a) x P h p = tt
+err_is (Err e) x P h p = subst P (sym h) p
+
+-- a refusal for one reason is one for another that is the same
+pub refuses_to : (o p : Option model.Refusal) → ((r : model.Refusal) → o ≡ Some r → p ≡ Some r) → (e : Refusal) → Refuses o e → Refuses p e
+refuses_to o p f refusals.Worn h = (h.0, f _ h.1)
+refuses_to o p f (refusals.UnknownTable name) h = (h.0, f _ h.1)
+refuses_to o p f (refusals.UnknownVersion version) h = (h.0, f _ h.1)
+refuses_to o p f (refusals.Retired version) h = (h.0, f _ h.1)
+refuses_to o p f (refusals.LastVersion version) h = (h.0, f _ h.1)
+refuses_to o p f (refusals.BadSchema cause) h = (h.0, f _ h.1)
+refuses_to o p f (refusals.NoStream stream) h = (h.0, f _ h.1)
+refuses_to o p f (refusals.NotSafe part checkpoint) h = (h.0, f _ h.1)
+refuses_to o p f (refusals.BadColumn name) h = (h.0, f _ h.1)
+refuses_to o p f (refusals.WrongType name) h = (h.0, f _ h.1)
+refuses_to o p f (refusals.KeyTooLong len) h = (h.0, f _ h.1)
+refuses_to o p f (refusals.AtEdge part) h = (h.0, f _ h.1)
+refuses_to o p f refusals.TooManyParts h = (h.0, f _ h.1)
+refuses_to o p f refusals.OutFault h = h
+refuses_to o p f refusals.FeedFault h = h
+refuses_to o p f refusals.Memory h = tt
+
+pub refuses_spoken : (o : Option model.Refusal) (e : Refusal) → Refuses o e → IsSpoken e
+refuses_spoken o refusals.Worn h = h.0
+refuses_spoken o (refusals.UnknownTable name) h = h.0
+refuses_spoken o (refusals.UnknownVersion version) h = h.0
+refuses_spoken o (refusals.Retired version) h = h.0
+refuses_spoken o (refusals.LastVersion version) h = h.0
+refuses_spoken o (refusals.BadSchema cause) h = h.0
+refuses_spoken o (refusals.NoStream stream) h = h.0
+refuses_spoken o (refusals.NotSafe part checkpoint) h = h.0
+refuses_spoken o (refusals.BadColumn name) h = h.0
+refuses_spoken o (refusals.WrongType name) h = h.0
+refuses_spoken o (refusals.KeyTooLong len) h = h.0
+refuses_spoken o (refusals.AtEdge part) h = h.0
+refuses_spoken o refusals.TooManyParts h = h.0
+refuses_spoken o refusals.OutFault h = absurd h
+refuses_spoken o refusals.FeedFault h = absurd h
+refuses_spoken o refusals.Memory h = tt
+
+-- memory alone is free
+pub refused_or_lacks : (P : model.Refusal → Type 0) (o : Option model.Refusal) → ((e : Refusal) → o ≡ Some (view_refusal e) → P (view_refusal e)) → P out_of_memory → (e : Refusal) → Refuses o e → P (view_refusal e)
+refused_or_lacks P o f m refusals.Worn h = f refusals.Worn h.1
+refused_or_lacks P o f m (refusals.UnknownTable name) h = f (refusals.UnknownTable name) h.1
+refused_or_lacks P o f m (refusals.UnknownVersion version) h = f (refusals.UnknownVersion version) h.1
+refused_or_lacks P o f m (refusals.Retired version) h = f (refusals.Retired version) h.1
+refused_or_lacks P o f m (refusals.LastVersion version) h = f (refusals.LastVersion version) h.1
+refused_or_lacks P o f m (refusals.BadSchema cause) h = f (refusals.BadSchema cause) h.1
+refused_or_lacks P o f m (refusals.NoStream stream) h = f (refusals.NoStream stream) h.1
+refused_or_lacks P o f m (refusals.NotSafe part checkpoint) h = f (refusals.NotSafe part checkpoint) h.1
+refused_or_lacks P o f m (refusals.BadColumn name) h = f (refusals.BadColumn name) h.1
+refused_or_lacks P o f m (refusals.WrongType name) h = f (refusals.WrongType name) h.1
+refused_or_lacks P o f m (refusals.KeyTooLong len) h = f (refusals.KeyTooLong len) h.1
+refused_or_lacks P o f m (refusals.AtEdge part) h = f (refusals.AtEdge part) h.1
+refused_or_lacks P o f m refusals.TooManyParts h = f refusals.TooManyParts h.1
+refused_or_lacks P o f m refusals.OutFault h = absurd h
+refused_or_lacks P o f m refusals.FeedFault h = absurd h
+refused_or_lacks P o f m refusals.Memory h = m
+
+-- ---- the version that a command names
+
+-- the table that has the name
+pub some_named : (cat : Catalogue) (name : List ℕ) (number : ℕ) → Some number ≡ option_map (λ (t : Table). t.number) (table_named cat name) → (t : Table) × (table_named cat name ≡ Some t) × (t.number ≡ number)
+some_named cat name number e = by (table_named cat name) refl e
+  where
+    by : (o : Option Table) → table_named cat name ≡ o → Some number ≡ option_map (λ (t : Table). t.number) o → (t : Table) × (table_named cat name ≡ Some t) × (t.number ≡ number)
+    by None d e = absurd cc
+    by (Some t) d e = (t, d, cc)
+
+pub none_named : (cat : Catalogue) (name : List ℕ) → None ≡ option_map (λ (t : Table). t.number) (table_named cat name) → table_named cat name ≡ None
+none_named cat name e = by (table_named cat name) refl e
+  where
+    by : (o : Option Table) → table_named cat name ≡ o → None ≡ option_map (λ (t : Table). t.number) o → table_named cat name ≡ None
+    by None d e = d
+    by (Some t) d e = absurd cc
+
+abbrev pub entry_fault : ℕ → Option Registered → Option model.Refusal
+entry_fault v x = first_of (when (is_none x) (no_such_version v) ∷ when (option_map_or (λ r. not r.live) x false) (version_retired v) ∷ [])
+
+-- of a table that is named, the fault lies in the version
+named_entry : (cat : Catalogue) (name : List ℕ) (v : ℕ) (t : Table) → table_named cat name ≡ Some t → named_fault cat name v ≡ entry_fault v (registered t v)
+named_entry cat name v t e = ap (λ (o : Option Table). first_of (when (is_none o) (model.no_such_table name) ∷ when (is_none (option_and_then (λ x. registered x v) o)) (no_such_version v)
+    ∷ when (option_map_or (λ r. not r.live) (option_and_then (λ x. registered x v) o) false) (version_retired v) ∷ [])) e
+
+version_at : (cat : Catalogue) (t : Table) (v : ℕ) → table_numbered cat t.number ≡ Some t → schema_version cat t.number v ≡ option_map (whole_version t v) (registered t v)
+version_at cat t v e = ap (option_and_then (λ t. option_map (whole_version t v) (registered t v))) e
+
+live_at : (cat : Catalogue) (t : Table) (v : ℕ) → table_numbered cat t.number ≡ Some t → is_live cat t.number v ≡ option_map_or (λ r. r.live) (registered t v) false
+live_at cat t v e = ap (λ (o : Option Table). option_map_or (λ r. r.live) (option_and_then (λ t. registered t v) o) false) e
+
+pub no_version : (cat : Catalogue) (name : List ℕ) (number v : ℕ) → IsCatalogue cat → Some number ≡ option_map (λ (t : Table). t.number) (table_named cat name) → None ≡ schema_version cat number v → named_fault cat name v ≡ Some (no_such_version v)
+no_version cat name number v is e d =
+    let n = some_named cat name number e in
+    let t = n.0 in
+    named_entry cat name v t n.1 ∙ by t (registered t v) (d ∙ ap (λ (m : ℕ). schema_version cat m v) (sym n.2) ∙ version_at cat t v (named_is_numbered cat name t is n.1))
+  where
+    by : (t : Table) (x : Option Registered) → None ≡ option_map (whole_version t v) x → entry_fault v x ≡ Some (no_such_version v)
+    by t None h = refl
+    by t (Some r) h = absurd cc
+
+pub not_live : (cat : Catalogue) (name : List ℕ) (number v : ℕ) (version : SchemaVersion) → IsCatalogue cat → Some number ≡ option_map (λ (t : Table). t.number) (table_named cat name) → Some version ≡ schema_version cat number v
+    → false ≡ is_live cat number v → named_fault cat name v ≡ Some (version_retired v)
+not_live cat name number v version is e d l =
+    let n = some_named cat name number e in
+    let t = n.0 in
+    let i = named_is_numbered cat name t is n.1 in
+    named_entry cat name v t n.1 ∙ by t (registered t v) (d ∙ ap (λ (m : ℕ). schema_version cat m v) (sym n.2) ∙ version_at cat t v i) (l ∙ ap (λ (m : ℕ). is_live cat m v) (sym n.2) ∙ live_at cat t v i)
+  where
+    by : (t : Table) (x : Option Registered) → Some version ≡ option_map (whole_version t v) x → false ≡ option_map_or (λ r. r.live) x false → entry_fault v x ≡ Some (version_retired v)
+    by t None h k = absurd cc
+    by t (Some r) h k = ap (λ (b : Bool). first_of (when (not b) (version_retired v) ∷ [])) (sym k)
+
+pub is_found : (cat : Catalogue) (name : List ℕ) (number v : ℕ) (version : SchemaVersion) → IsCatalogue cat → Some number ≡ option_map (λ (t : Table). t.number) (table_named cat name) → Some version ≡ schema_version cat number v
+    → true ≡ is_live cat number v → IsLive cat name v version
+is_found cat name number v version is e d l =
+    let n = some_named cat name number e in
+    let t = n.0 in
+    let i = named_is_numbered cat name t is n.1 in
+    by t n.1 i (registered t v) refl (d ∙ ap (λ (m : ℕ). schema_version cat m v) (sym n.2) ∙ version_at cat t v i) (l ∙ ap (λ (m : ℕ). is_live cat m v) (sym n.2) ∙ live_at cat t v i)
+  where
+    by : (t : Table) → table_named cat name ≡ Some t → table_numbered cat t.number ≡ Some t → (x : Option Registered) → registered t v ≡ x → Some version ≡ option_map (whole_version t v) x → true ≡ option_map_or (λ r. r.live) x false → IsLive cat name v version
+    by t n i None f h k = absurd cc
+    by t n i (Some r) f h k = record { lawful = is; table = t; named = n; numbered = i; entry = r; found = f; live = sym k; is = cc }
+
+-- ---- retirements
+
+abbrev pub numbers : Catalogue → List ℕ → ℕ → Type 0
+numbers cat name number = Some number ≡ option_map (λ (t : Table). t.number) (table_named cat name)
+
+pub retire_told : (cat : Catalogue) (n : ℕ) (es : List PartEntry) (ss : List StreamAt) (mem : Memory) (name : List ℕ) (number v : ℕ) (fault : RetireFault) → (n == 2 ^ 64 - 1) ≡ false → IsCatalogue cat → numbers cat name number → retire_fault cat number v ≡ Some fault
+    → refused (state_with cat n es ss mem) (do_retire name v) ≡ Some (retire_refusal name v fault)
+retire_told cat n es ss mem name number v fault e is d f =
+    let t = some_named cat name number d in
+    retire_is cat n es ss mem name v t.0 e is t.1 ∙ ap (λ (m : ℕ). option_map (retire_refusal name v) (retire_fault cat m v)) t.2 ∙ ap (option_map (retire_refusal name v)) f
+
+pub retire_lets : (cat : Catalogue) (n : ℕ) (es : List PartEntry) (ss : List StreamAt) (mem : Memory) (name : List ℕ) (number v : ℕ) → (n == 2 ^ 64 - 1) ≡ false → IsCatalogue cat → numbers cat name number → retire_fault cat number v ≡ None
+    → refused (state_with cat n es ss mem) (do_retire name v) ≡ None
+retire_lets cat n es ss mem name number v e is d f =
+    let t = some_named cat name number d in
+    retire_is cat n es ss mem name v t.0 e is t.1 ∙ ap (λ (m : ℕ). option_map (retire_refusal name v) (retire_fault cat m v)) t.2 ∙ ap (option_map (retire_refusal name v)) f
+
+pub numbered_by : {name bytes : List ℕ} {number : ℕ} (cat : Catalogue) → Some number ≡ option_map (λ (t : Table). t.number) (table_named cat bytes) → bytes ≡ name → numbers cat name number
+numbered_by {name} {bytes} {number} cat e b = e ∙ ap (λ x. option_map (λ (t : Table). t.number) (table_named cat x)) b

@@ -1,0 +1,9 @@
+pub mod Answers
+pub mod Behind
+pub mod Pumping
+pub mod Scans
+pub mod Settling
+pub mod Splitting
+pub mod State
+pub mod Stepped
+pub mod Steps

@@ -1,0 +1,45 @@
+-- What a replica stands for: the machine's state, and what it holds in memory.
+use Rattle.std.specs.Prelude.{List, None, [], map, ℕ, ◌^◌}
+use Rattle.lt_model.specs.Machine.{State, StreamAt}
+use Rattle.lt_model.specs.Outside.{Memory, name_of}
+use Rattle.lt_model.specs.Schema.{Catalogue}
+use Rattle.lt_model.specs.Store.{Durable}
+use Rattle.lt_parts.specs.declared.entry.PartEntry.{PartEntry}
+use Rattle.lt_pending.specs.Held.{held_in}
+use Rattle.lt_pump.specs.Pumps.{streams_of}
+use Rattle.lt_pump.specs.declared.refusal.AttachRefusal.{AttachRefusal}
+use Rattle.lt_pump.specs.declared.refusal.AttachRefusal.TheVariants as attach
+pub use Rattle.lt_engine.specs.Settling.{AreSettled, part_of_entry}
+use Rattle.lt_engine.specs.declared.refusal.StartRefusal.{StartRefusal}
+use Rattle.lt_engine.specs.declared.refusal.StartRefusal.TheVariants as start
+use Rattle.lt_engine.specs.declared.replica.Replica.{Replica}
+
+-- there is no store yet: the limit serves for nothing, and nothing is on the shelf
+abbrev pub durable_with : Catalogue → ℕ → List PartEntry → List StreamAt → Durable
+durable_with cat n es ss = record {
+  limit = 2 ^ 20;
+  generation = n;
+  catalogue = cat;
+  minimum = 0;
+  next_id = 0;
+  parts = map part_of_entry es;
+  streams = map (λ a. record { low = a.header.range.low; points = [] }) ss;
+  shelf = [];
+}
+
+-- what is held is what is pending
+abbrev pub state_with : Catalogue → ℕ → List PartEntry → List StreamAt → Memory → State
+state_with cat n es ss mem = record { durable = durable_with cat n es ss; streams = ss; pending = map (map name_of) mem; job = None; broken = None }
+
+-- the changes that each partition holds
+abbrev pub memory_of : Replica → Memory
+memory_of r = map held_in r.parts.items
+
+abbrev pub state_of : Replica → State
+state_of r = state_with r.catalogue r.generation r.map (streams_of r.pump) (memory_of r)
+
+-- why no replica begins, where no pump is made
+abbrev pub start_refusal : AttachRefusal → StartRefusal
+start_refusal (attach.Mismatch stream) = start.Mismatch stream
+start_refusal attach.Feed = start.Feed
+start_refusal attach.Memory = start.Memory

@@ -1,0 +1,137 @@
+//! The command that scans a table at a timestamp.
+
+ghost use Rattle.std.specs.Prelude.{◌≡◌, ◌≤◌, ◌<◌, ◌+◌, ◌^◌, IfErr, IfOk, MatchResult, None, OnOk, Some, map};
+ghost use Rattle.lt_command.specs.View.{view_query};
+ghost use Rattle.lt_core.specs.View.{view_row};
+ghost use Rattle.lt_model.specs.Disk.{Rose};
+ghost use Rattle.lt_model.specs.Machine.{refused};
+ghost use Rattle.lt_model.specs.Outside.{StaysTold};
+ghost use Rattle.lt_model.specs.Script.{do_scan};
+ghost use Rattle.lt_reply.specs.View.{view_refusal};
+ghost use Rattle.lt_schema.specs.View.{view_version};
+ghost use Rattle.lt_engine.specs.Answers.{Finds};
+ghost use Rattle.lt_engine.specs.Scans.{GivesAll, GivesSome, ReadsHeld, table_keys, unsafe_at, view_row_refusal};
+ghost use Rattle.lt_engine.specs.State.{state_of};
+ghost use Rattle.lt_engine.specs.Steps.{AreRows, Refuses, ScanFails, Scanned};
+
+use crate::replica::Replica;
+use lt_command::Query;
+use lt_core::{KeyParts, List, Memory, Row, Ts, encode_prefix};
+use lt_reply::{Refusal, Reply};
+use lt_rows::rows_at;
+use lt_scan::{RowRefusal, RowSink};
+use lt_schema::SchemaVersion;
+
+impl Replica {
+    /// Gives the rows that a query asks for, and tells how many.
+    pub(crate) fn scan<R: RowSink>(&self, query: &Query, rows: &mut R) -> Result<Reply, Refusal>
+        ensures done { IfOk result (Scanned self.now (view_query query.now) (record { spell = R.spell rows.old; told = R.told rows.old; rows = R.rows rows.old; faults = R.faults rows.old }) (record { spell = R.spell rows.new; told = R.told rows.new; rows = R.rows rows.new; faults = R.faults rows.new })) }
+        ensures refused { IfErr result (ScanFails self.now (view_query query.now) (record { spell = R.spell rows.old; told = R.told rows.old; rows = R.rows rows.old; faults = R.faults rows.old }) (record { spell = R.spell rows.new; told = R.told rows.new; rows = R.rows rows.new; faults = R.faults rows.new })) }
+        ensures stays { StaysTold (R.told rows.old) (R.told rows.new) × StaysTold (R.rows rows.old) (R.rows rows.new) × (R.spell rows.new ≡ R.spell rows.old) }
+        ensures later { R.faults rows.old ≤ R.faults rows.new }
+    {
+        let found = self.find_rows(query)?;
+        match give(&found, rows) {
+            Ok(()) => Ok(Reply::Scan {
+                rows: found.len() as u64,
+            }),
+            Err(refusal) => Err(refusal_of(refusal)),
+        }
+    }
+
+    /// The rows that a query asks for.
+    fn find_rows(&self, query: &Query) -> Result<List<Row>, Refusal>
+        ensures free { OnOk result (refused (state_of self.now) (do_scan (view_query query.now)) ≡ None) }
+        ensures rows { IfOk result (λ rows. AreRows self.now (view_query query.now) (map view_row rows)) }
+        ensures refused { IfErr result (Refuses (refused (state_of self.now) (do_scan (view_query query.now)))) }
+    {
+        let version = self.live_version(query)?;
+        self.test_safe(version.number, query.at)?;
+        Ok(self.rows_of(version, query.at)?)
+    }
+
+    /// The live version that a query names.
+    fn live_version(&self, query: &Query) -> Result<&SchemaVersion, Refusal>
+        ensures { Finds self.now.catalogue query.now.table query.now.version result }
+    {
+        let version = query.version;
+        let Some(number) = self.catalogue.table(query.table.as_slice()) else {
+            return Err(Refusal::UnknownTable {
+                name: query.table.copy()?,
+            });
+        };
+        let Some(found) = self.catalogue.get(number, version) else {
+            return Err(Refusal::UnknownVersion { version });
+        };
+        if !self.catalogue.live(number, version) {
+            return Err(Refusal::Retired { version });
+        }
+        Ok(found)
+    }
+
+    /// Tests whether each partition that has keys of the table is safe at a timestamp.
+    fn test_safe(&self, table: u32, at: Ts) -> Result<(), Refusal>
+        requires { table + 1 < 2 ^ 32 }
+        ensures { MatchResult result (λ _. unsafe_at (state_of self.now) (table_keys table) at ≡ None) (Refuses (unsafe_at (state_of self.now) (table_keys table) at)) }
+    {
+        // What the length says of the partitions: they are few.
+        let _count = self.map.len();
+        let none = KeyParts::new(self.allocator());
+        let low = encode_prefix(self.allocator(), table, &none)?;
+        let high = encode_prefix(self.allocator(), table + 1, &none)?;
+        match self
+            .map
+            .first_below(low.as_slice(), Some(high.as_slice()), at)
+        {
+            None => Ok(()),
+            Some((part, checkpoint)) => Err(Refusal::NotSafe {
+                part: part as u32,
+                checkpoint,
+            }),
+        }
+    }
+
+    /// The rows that what is held makes of a table at a timestamp.
+    fn rows_of(&self, version: &SchemaVersion, at: Ts) -> Result<List<Row>, Memory>
+        ensures { IfOk result (λ rows. ReadsHeld self.now (view_version version.now) at (map view_row rows)) }
+    {
+        let mut changes = Vec::new(self.allocator());
+        for part in &self.parts {
+            part.list_all(&mut changes)?;
+        }
+        rows_at(
+            self.allocator(),
+            changes.as_slice(),
+            &self.catalogue,
+            version,
+            at,
+        )
+    }
+}
+
+/// Gives rows in their order.
+fn give<R: RowSink>(found: &List<Row>, rows: &mut R) -> Result<(), RowRefusal>
+    ensures all { OnOk result (GivesAll (record { spell = R.spell rows.old; told = R.told rows.old; rows = R.rows rows.old; faults = R.faults rows.old }) (record { spell = R.spell rows.new; told = R.told rows.new; rows = R.rows rows.new; faults = R.faults rows.new }) (map view_row found.now)) }
+    ensures some { IfErr result (GivesSome (record { spell = R.spell rows.old; told = R.told rows.old; rows = R.rows rows.old; faults = R.faults rows.old }) (record { spell = R.spell rows.new; told = R.told rows.new; rows = R.rows rows.new; faults = R.faults rows.new }) (map view_row found.now)) }
+    ensures cause { IfErr result (λ e. e ≡ RowRefusal.Fault → Rose (R.faults rows.old) (R.faults rows.new)) }
+    ensures lacks { IfErr result (λ e. e ≡ RowRefusal.Memory → R.faults rows.new ≡ R.faults rows.old) }
+    ensures stays { StaysTold (R.told rows.old) (R.told rows.new) × StaysTold (R.rows rows.old) (R.rows rows.new) × (R.spell rows.new ≡ R.spell rows.old) }
+    ensures later { R.faults rows.old ≤ R.faults rows.new }
+{
+    for row in found.as_slice() {
+        rows.row(row)?;
+    }
+    Ok(())
+}
+
+/// Why a scan breaks off.
+fn refusal_of(refusal: RowRefusal) -> Refusal
+    ensures says { view_refusal result ≡ view_row_refusal refusal }
+    ensures fault { refusal ≡ RowRefusal.Fault → result ≡ Refusal.OutFault }
+    ensures memory { refusal ≡ RowRefusal.Memory → result ≡ Refusal.Memory }
+{
+    match refusal {
+        RowRefusal::Fault => Refusal::OutFault,
+        RowRefusal::Memory => Refusal::Memory,
+    }
+}
