@@ -1,254 +1,278 @@
--- What a schema, a retirement and a scan are answered with, by the machine.
-use Rattle.std.proofs.Common.{Bool, List, [], ap, arith, cond, false, length, ltb-true, not, refl, sym, true, ℕ, ◌+◌, ◌<◌, ◌∙◌, ◌∷◌, ◌≡◌}
-use Rattle.std.proofs.Math.Nat.{zero-max}
-use Rattle.std.specs.Prelude.{Err, None, Ok, Option, Result, Some, if◌then◌else◌, is_none, max, nat_lt, option_and_then, option_map, ◌&&◌, ◌==◌, ◌^◌, ◌-◌, ◌||◌}
-use Rattle.std.specs.Option.{option_map_or, option_or}
-use Rattle.lt_model.specs.Fair.{Point, checkpoint_of, place_after, point_of}
-use Rattle.lt_model.specs.Key.{Range, all_keys, below, greater_low, key_bytes, meets}
-use Rattle.lt_model.specs.Log.{Item}
-use Rattle.lt_model.specs.Machine.{State, StreamAt, added_read, added_text, bad_column_asked, columns_fault, error_of, first_below, is_worn, literals_fault, name_and_version, names_version, not_safe_asked, part_misfit, query_interval, refused, registered_named, schema_refused, too_old_asked, with_cause, wrong_literal_asked}
-use Rattle.lt_model.specs.OneStream.{only_header, session_after}
-use Rattle.lt_model.specs.Query.{Query, interval}
-use Rattle.lt_model.specs.Reply.{Refusal, bad_column, bad_schema, is_last_version, no_such_table, no_such_version, not_safe, of_text, of_version, too_old, version_retired, worn, wrong_literal}
-use Rattle.lt_model.specs.Schema.{Catalogue, Column, IsCatalogue, KeyColumn, Registered, RetireFault, SchemaFault, SchemaVersion, Table, already_retired, err_or, first_of, last_version, registered, retire_fault, schema_fault, table_named, unknown_table, unknown_version, when, with_version}
-use Rattle.lt_model.specs.SchemaText.{JsonFault, version_of_text}
-use Rattle.lt_model.specs.Script.{do_retire, do_scan, do_schema, plain_query}
+-- What a command is answered with is what the machine answered, with the texts of its rows before it.
+use Rattle.std.proofs.Common.{List, [], ap, append-nil, arith, inl, inr, refl, subst, sym, ℕ, ◌++◌, ◌<◌, ◌∙◌, ◌≡◌}
+use Rattle.std.specs.Prelude.{Err, IfErr, IfOk, IfSome, IsTrue, None, Ok, Option, Result, Some, false, option_and_then, option_map, unwrap_or}
+use Rattle.lt_model.specs.Disk.{Rose}
+use Rattle.lt_model.specs.Fair.{Feed}
+use Rattle.lt_model.specs.InMemory.{causes_between, line_cause}
+use Rattle.lt_model.specs.Kind.{Kind}
+use Rattle.lt_model.specs.Log.{Change}
+use Rattle.lt_model.specs.Machine.{Answer, Does, Scans, State, StepBy, cat_of, refused, refuses}
+use Rattle.lt_model.specs.Outside.{BelongsTo, GivenUpTo, Memory, caused_by, texts_of}
+use Rattle.lt_model.specs.Query.{Query}
+use Rattle.lt_model.specs.Reply as model
+use Rattle.lt_model.specs.Reply.{feed_fault, out_fault, out_of_memory, picked_kinds, refusal_text, row_text}
+use Rattle.lt_model.specs.Run.{Answers, Counts, FaultsIn, answer_text, asked_kinds, calls_feed, is_fault, may_end_in, result_text, rows_text}
+use Rattle.lt_model.specs.Schema.{Catalogue, IsCatalogue, Registered, SchemaVersion, Table, registered, schema_version, table_named, whole_version}
+use Rattle.lt_model.specs.Script.{Command, do_scan}
+use Rattle.lt_model.specs.Sound.{source_of}
+use Rattle.lt_model.specs.Value.{Value}
+use Rattle.lt_command.specs.View.{view_command, view_query}
+use Rattle.lt_command.specs.declared.command.Command as code
+use Rattle.lt_command.specs.declared.command.Command.TheVariants as commands
+use Rattle.lt_command.specs.declared.command.Query as queries
+use Rattle.lt_engine.specs.Steps.{answer_of, with_rows}
 use Rattle.lt_laws.proofs.AnswerLaws.{named_is_numbered}
-use Rattle.lt_rows.proofs.WholeAnswers.{low_is, up_to_high}
-use Rattle.lightning_cli.specs.Answers.{IsLive, named_fault, text_refusal, version_refusal}
-use Rattle.lightning_cli.specs.Fairness.{AreFair}
-use Rattle.lightning_cli.proofs.AnswerLaws.{no_write, pending_after, place, session_at, session_is, stands_at}
-use Rattle.lightning_cli.proofs.FairItems.{point_checkpoint}
+use Rattle.lt_pump.specs.Feeds.{FeedCounts}
+use Rattle.lt_reply.proofs.RowKinds.{all_picked}
+use Rattle.lt_reply.specs.Rows.{row_kinds}
+use Rattle.lt_reply.specs.View.{view_refusal}
+use Rattle.lt_reply.specs.declared.refusal.Refusal.{Refusal}
+use Rattle.lt_reply.specs.declared.reply.Reply.{Reply}
+use Rattle.lightning_cli.specs.Commands.{Answered, feed_counts, version_named, version_read}
+use Rattle.lightning_cli.proofs.FeedLaws.{at_told}
 
--- ---- refusals, by their parts
+-- ---- causes
 
-or_none : {A : Type 0} (o : Option A) → option_or o None ≡ o
-or_none None = refl
-or_none (Some r) = refl
+-- a row sink that counts no fault is the cause of none
+no_out : Rose 0 0 → ⊥
+no_out h = absurd (omega (arith, h))
 
--- a session that goes on is worn at the greatest generation alone
-pub worn_at : (cat : Catalogue) (n : ℕ) (items : List Item) → is_worn (session_after cat n items).durable ≡ (n == 2 ^ 64 - 1)
-worn_at cat n items = or_false (n == 2 ^ 64 - 1)
+line_caused : (a b x y : ℕ) (r : model.Refusal) → caused_by (causes_between a b 0 0) r → caused_by (causes_between a b x y) r
+line_caused a b x y model.needs_reopen h = absurd h
+line_caused a b x y model.worn h = absurd h
+line_caused a b x y (model.no_such_table name) h = absurd h
+line_caused a b x y (model.no_such_version v) h = absurd h
+line_caused a b x y (model.version_retired v) h = absurd h
+line_caused a b x y (model.is_last_version v) h = absurd h
+line_caused a b x y (model.bad_schema cause) h = absurd h
+line_caused a b x y (model.no_stream n) h = absurd h
+line_caused a b x y (model.no_partition n) h = absurd h
+line_caused a b x y (model.no_such_delta n) h = absurd h
+line_caused a b x y (model.bad_column name) h = absurd h
+line_caused a b x y (model.wrong_literal name) h = absurd h
+line_caused a b x y (model.key_too_long n) h = absurd h
+line_caused a b x y (model.too_old n) h = absurd h
+line_caused a b x y (model.not_safe n t) h = absurd h
+line_caused a b x y (model.above_durable n) h = absurd h
+line_caused a b x y (model.below_minimum n) h = absurd h
+line_caused a b x y (model.at_edge n) h = absurd h
+line_caused a b x y model.too_many_parts h = absurd h
+line_caused a b x y model.too_many_deltas h = absurd h
+line_caused a b x y model.job_open h = absurd h
+line_caused a b x y model.no_job h = absurd h
+line_caused a b x y model.not_done h = absurd h
+line_caused a b x y (model.store_full need room) h = absurd h
+line_caused a b x y model.feed_fault h = h
+line_caused a b x y model.disk_fault h = absurd h
+line_caused a b x y (model.damaged place len) h = absurd h
+line_caused a b x y model.out_fault h = absurd (no_out h)
+line_caused a b x y (model.feed_mismatch n) h = absurd h
+line_caused a b x y model.out_of_memory h = tt
+
+caused_line : (k j : FeedCounts) (n m : Counts) (g : Feed) (s : State) (c : Command) (r : model.Refusal) → feed_counts n ≡ k → feed_counts m ≡ j → caused_by (causes_between k.0 j.0 0 0) r → line_cause n m g s c r
+caused_line k j n m g s c r e d h =
+    line_caused n.feed m.feed n.out m.out r
+    (subst (λ (x : ℕ). caused_by (causes_between x m.feed 0 0) r) (sym (ap (λ (x : FeedCounts). x.0) e))
+    (subst (λ (y : ℕ). caused_by (causes_between k.0 y 0 0) r) (sym (ap (λ (x : FeedCounts). x.0) d)) h))
+
+answers_caused : (caused more : model.Refusal → Type 0) (f : Feed) (s s' : State) (c : Command) (a : Answer) → ((r : model.Refusal) → caused r → more r) → Answers caused f s c a s' → Answers more f s c a s'
+answers_caused caused more f s s' c a k h = (
+  h.0,
+  h.1,
+  elim h.2 [
+    | inl step ↦ inl step
+    | inr x ↦ inr (x.0, x.1, x.2, x.3, k x.0 x.4, x.5, x.6, x.7)
+  ],
+)
+
+-- what the machine answered, as a text
+machine_answered : (k j : FeedCounts) (g : Feed) (s t : State) (c : Command) (a : Answer) (text : List ℕ) → Answers (caused_by (causes_between k.0 j.0 0 0)) g s c a t → (a.reply ≡ Err out_fault → ⊥)
+    → (k.0 < j.0 → a.reply ≡ Err feed_fault) → (calls_feed c ≡ false → j.1 ≡ k.1) → text ≡ answer_text s c a → Answered k j s t c g text
+machine_answered k j g s t c a text h goes failed quiet is n m e d w = record {
+  answer = a;
+  text = is;
+  answers = answers_caused (caused_by (causes_between k.0 j.0 0 0)) (line_cause n m g s c) g s t c a (λ r x. caused_line k j n m g s c r e d x) h;
+  goes_on = goes;
+  feed_failed = λ l. failed (omega (arith, ap (λ (x : FeedCounts). x.0) e, ap (λ (x : FeedCounts). x.0) d, l));
+  not_called = λ q. ap (λ (x : FeedCounts). x.1) d ∙ quiet q ∙ sym (ap (λ (x : FeedCounts). x.1) e);
+  write_failed = λ l. absurd (omega (arith, w, l));
+}
+
+-- a row sink that counts no fault has none told
+pub never_out : (a b : ℕ) (r : Result Reply Refusal) → IfErr r (λ e. IsTrue (is_fault (view_refusal e)) → caused_by (causes_between a b 0 0) (view_refusal e)) → answer_of r ≡ Err out_fault → ⊥
+never_out a b (Ok reply) h e = absurd cc
+never_out a b (Err x) h e =
+    let is : view_refusal x ≡ out_fault = cc in
+    no_out ((subst (λ (y : model.Refusal). IsTrue (is_fault y) → caused_by (causes_between a b 0 0) y) is h) refl)
+
+-- ---- answers without rows
+
+none_some : {A : Type 0} (o : Option A) (x : A) → o ≡ None → o ≡ Some x → ⊥
+none_some o x h k = absurd cc
+
+-- a query that names no version gives no rows
+no_scan : (source : List Change) (s : State) (q : Query) (rows : List (List Value)) → version_named (cat_of s) q.table q.version ≡ None → Scans source s q rows → ⊥
+no_scan source s q rows none h =
+    none_some (version_named (cat_of s) q.table q.version) (whole_version h.0 q.version h.1) none
+    (ap (option_and_then (λ (t : Table). option_map (whole_version t q.version) (registered t q.version))) h.2 ∙ ap (option_map (whole_version h.0 q.version)) h.3)
+
+does_none : (f : Feed) (source : List Change) (s s' : State) (c : code.Command) (a : Answer) → version_read (cat_of s) (view_command c) ≡ None → Does f source s (view_command c) a s' → a.rows ≡ []
+does_none f source s s' (commands.Schema text) a none d = ap (λ (x : Answer). x.rows) d.2
+does_none f source s s' (commands.Retire table version) a none d = ap (λ (x : Answer). x.rows) d.2
+does_none f source s s' (commands.Pump stream count) a none d = ap (λ (x : Answer). x.rows) d.7.2
+does_none f source s s' (commands.Split table key) a none d = ap (λ (x : Answer). x.rows) d.2
+does_none f source s s' (commands.Scan query) a none d = absurd (no_scan source s (view_query query) a.rows none d.0)
+does_none f source s s' commands.Status a none d = ap (λ (x : Answer). x.rows) d.0
+
+step_none : (o : Option model.Refusal) (f : Feed) (source : List Change) (s s' : State) (c : code.Command) (a : Answer) → version_read (cat_of s) (view_command c) ≡ None → StepBy o f source s (view_command c) a s' → a.rows ≡ []
+step_none None f source s s' c a none d = does_none f source s s' c a none d
+step_none (Some r) f source s s' c a none d = ap (λ (x : Answer). x.rows) d.0
+
+-- before a fault neither
+fault_none : (caused : model.Refusal → Type 0) (f : Feed) (source : List Change) (s s' : State) (c : Command) (a : Answer) → version_read (cat_of s) c ≡ None → FaultsIn caused f source s c a s' → a.rows ≡ []
+fault_none caused f source s s' c a none x = elim x.5 [
+  | inl e ↦ e
+  | inr h ↦ absurd (no_scan source s h.0 h.1 (sym (ap (option_and_then (λ (q : Query). version_named (cat_of s) q.table q.version)) h.3) ∙ none) h.4)
+]
+
+none_given : (caused : model.Refusal → Type 0) (f : Feed) (s s' : State) (c : code.Command) (a : Answer) → version_read (cat_of s) (view_command c) ≡ None → Answers caused f s (view_command c) a s' → a.rows ≡ []
+none_given caused f s s' c a none h = elim h.2 [
+  | inl step ↦ step_none (refused s (view_command c)) f (source_of h.0) s s' c a none step
+  | inr x ↦ fault_none caused f (source_of h.0) s s' (view_command c) a none x
+]
+
+pub alone_answered : (k j : FeedCounts) (g : Feed) (s t : State) (c : code.Command) (rows : List (List Value)) (answer : Result model.Reply model.Refusal) (text : List ℕ) → version_read (cat_of s) (view_command c) ≡ None
+    → Answers (caused_by (causes_between k.0 j.0 0 0)) g s (view_command c) (record { rows = rows; reply = answer }) t → (answer ≡ Err out_fault → ⊥) → (k.0 < j.0 → answer ≡ Err feed_fault) → (calls_feed (view_command c) ≡ false → j.1 ≡ k.1)
+    → text ≡ result_text answer → Answered k j s t (view_command c) g text
+alone_answered k j g s t c rows answer text none h goes failed quiet is =
+    let a : Answer = record { rows = rows; reply = answer } in
+    machine_answered k j g s t (view_command c) a text h goes failed quiet
+    (is ∙ ap (λ (xs : List (List Value)). rows_text (asked_kinds s (view_command c)) xs ++ result_text answer) (sym (none_given (caused_by (causes_between k.0 j.0 0 0)) g s t c a none h)))
+
+-- ---- answers with rows
+
+kinds_at : (t : Table) (q : Query) (v : SchemaVersion) (x : Option Registered) → q.columns ≡ None → option_map (whole_version t q.version) x ≡ Some v → unwrap_or (option_and_then (λ r. Some (picked_kinds t r.columns q)) x) [] ≡ row_kinds v
+kinds_at t q v None all e = absurd cc
+kinds_at t q v (Some r) all e = let is : whole_version t q.version r ≡ v = cc in all_picked t (whole_version t q.version r) q refl all ∙ ap row_kinds is
+
+kinds_of : (s : State) (q : Query) (v : SchemaVersion) → q.columns ≡ None → version_named (cat_of s) q.table q.version ≡ Some v → asked_kinds s (do_scan q) ≡ row_kinds v
+kinds_of s q v all e = by (table_named (cat_of s) q.table) e
   where
-    or_false : (b : Bool) → (b || false) ≡ b
-    or_false true = refl
-    or_false false = refl
+    by : (o : Option Table) → option_and_then (λ t. option_map (whole_version t q.version) (registered t q.version)) o ≡ Some v
+        → unwrap_or (option_and_then (λ t. option_and_then (λ r. Some (picked_kinds t r.columns q)) (registered t q.version)) o) [] ≡ row_kinds v
+    by None e = absurd cc
+    by (Some t) e = kinds_at t q v (registered t q.version) all e
 
--- a schema is refused for its text or its version, if the store is not worn
-pub schema_refused_by : (cat : Catalogue) (n : ℕ) (items : List Item) (t : List ℕ)
-    → refused (session_after cat n items) (do_schema t) ≡ option_or (when (is_worn (session_after cat n items).durable && true) worn) (option_or (schema_refused (session_after cat n items) (do_schema t)) None)
-unfolding refused
-schema_refused_by cat n items t = refl
+-- the kinds of a command's rows are those of the version that they are read by
+kinds_are : (s : State) (c : code.Command) (v : SchemaVersion) → version_read (cat_of s) (view_command c) ≡ Some v → asked_kinds s (view_command c) ≡ row_kinds v
+kinds_are s (commands.Schema text) v e = absurd cc
+kinds_are s (commands.Retire table version) v e = absurd cc
+kinds_are s (commands.Pump stream count) v e = absurd cc
+kinds_are s (commands.Split table key) v e = absurd cc
+kinds_are s (commands.Scan query) v e = kinds_of s (view_query query) v refl e
+kinds_are s commands.Status v e = absurd cc
 
--- why a schema text is not added
-abbrev pub schema_fault_text : Catalogue → List ℕ → Option Refusal
-schema_fault_text cat t = option_map bad_schema (error_of (added_text cat t))
+-- where no fault of the sink is told, all rows given were spelled
+spelled_all : (spell : List Value → List ℕ) (held texts : List ℕ) (given : List (List Value)) (answer : Result model.Reply model.Refusal) → GivenUpTo spell (Some held) (Some texts) None None given answer
+    → held ≡ [] → (answer ≡ Err out_fault → ⊥) → texts ≡ texts_of spell given
+spelled_all spell held texts given answer h none goes =
+    let whole : h.broken_off ≡ [] = elim h.only_so [
+      | inl e ↦ e
+      | inr x ↦ absurd (goes x.0)
+    ] in
+    h.text ∙ ap (λ (x : List ℕ). x ++ (texts_of spell given ++ h.broken_off)) none ∙ ap (λ (x : List ℕ). texts_of spell given ++ x) whole ∙ append-nil (texts_of spell given)
 
-pub schema_is : (cat : Catalogue) (n : ℕ) (items : List Item) (t : List ℕ) → (n == 2 ^ 64 - 1) ≡ false → refused (session_after cat n items) (do_schema t) ≡ schema_fault_text cat t
-schema_is cat n items t e = schema_refused_by cat n items t ∙ ap (λ (b : Bool). option_or (when (b && true) worn) (option_or (schema_fault_text cat t) None)) (worn_at cat n items ∙ e) ∙ or_none (schema_fault_text cat t)
+pub rows_answered : (k j : FeedCounts) (g : Feed) (s t : State) (c : code.Command) (v : SchemaVersion) (rows : List (List Value)) (answer : Result model.Reply model.Refusal) (held texts text : List ℕ) → version_read (cat_of s) (view_command c) ≡ Some v
+    → GivenUpTo (row_text (row_kinds v)) (Some held) (Some texts) None None rows answer → held ≡ []
+    → Answers (caused_by (causes_between k.0 j.0 0 0)) g s (view_command c) (record { rows = rows; reply = answer }) t → (answer ≡ Err out_fault → ⊥) → (k.0 < j.0 → answer ≡ Err feed_fault) → (calls_feed (view_command c) ≡ false → j.1 ≡ k.1)
+    → text ≡ texts ++ result_text answer → Answered k j s t (view_command c) g text
+rows_answered k j g s t c v rows answer held texts text e given none h goes failed quiet is =
+    let a : Answer = record { rows = rows; reply = answer } in
+    machine_answered k j g s t (view_command c) a text h goes failed quiet
+    (is ∙ ap (λ (x : List ℕ). x ++ result_text answer) (spelled_all (row_text (row_kinds v)) held texts rows answer given none goes ∙ ap (λ (ks : List Kind). rows_text ks rows) (sym (kinds_are s c v e))))
 
-pub schema_worn : (cat : Catalogue) (n : ℕ) (items : List Item) (t : List ℕ) → (n == 2 ^ 64 - 1) ≡ true → refused (session_after cat n items) (do_schema t) ≡ Some worn
-schema_worn cat n items t e = schema_refused_by cat n items t ∙ ap (λ (b : Bool). option_or (when (b && true) worn) (option_or (schema_fault_text cat t) None)) (worn_at cat n items ∙ e)
+-- ---- what a step leaves to say
 
-text_refused_by : (cat : Catalogue) (o : Result SchemaVersion JsonFault) (r : Refusal) → option_map (λ f. bad_schema (of_text f)) (error_of o) ≡ Some r → option_map bad_schema (error_of (added_read cat o)) ≡ Some r
-text_refused_by cat (Ok v) r e = absurd cc
-text_refused_by cat (Err f) r e = e
+ok_map : {A E : Type 0} (P Q : A → Type 0) (r : Result A E) → ((x : A) → P x → Q x) → IfOk r P → IfOk r Q
+ok_map P Q (Ok x) k h = k x h
+ok_map P Q (Err e) k h = tt
 
-pub text_refused : (cat : Catalogue) (t : List ℕ) (r : Refusal) → text_refusal t ≡ Some r → schema_fault_text cat t ≡ Some r
-text_refused cat t r e = text_refused_by cat (version_of_text t) r e
+pub by_none : {E : Type 0} (told : Option Feed) (k j : FeedCounts) (g : Feed) (s t : State) (mem : Memory) (c : code.Command) (r : Result Reply Refusal) (spell : List Value → List ℕ) (out : Result (List ℕ) E) → told ≡ Some g → BelongsTo g s mem
+    → version_read (cat_of s) (view_command c) ≡ None
+    → IfSome told (λ f. BelongsTo f s mem → (given : List (List Value)) × GivenUpTo spell None None None None given (answer_of r) × Answers (caused_by (causes_between k.0 j.0 0 0)) f s (view_command c) (with_rows given r) t)
+    → IfErr r (λ e. IsTrue (is_fault (view_refusal e)) → caused_by (causes_between k.0 j.0 0 0) (view_refusal e)) → (k.0 < j.0 → answer_of r ≡ Err feed_fault) → (calls_feed (view_command c) ≡ false → j.1 ≡ k.1)
+    → IfOk out (λ line. line ≡ result_text (answer_of r)) → IfOk out (Answered k j s t (view_command c) g)
+by_none told k j g s t mem c r spell out is b none machine causes failed quiet text =
+    let m = at_told (λ f. BelongsTo f s mem → (given : List (List Value)) × GivenUpTo spell None None None None given (answer_of r) × Answers (caused_by (causes_between k.0 j.0 0 0)) f s (view_command c) (with_rows given r) t) told g is machine b in
+    ok_map (λ line. line ≡ result_text (answer_of r)) (Answered k j s t (view_command c) g) out (λ line e. alone_answered k j g s t c m.0 (answer_of r) line none m.2 (never_out k.0 j.0 r causes) failed quiet e) text
 
-version_refused_by : (o : Option SchemaFault) (new : Catalogue) (r : Refusal) → option_map (λ f. bad_schema (of_version f)) o ≡ Some r → option_map bad_schema (error_of (with_cause (err_or o new))) ≡ Some r
-version_refused_by None new r e = absurd cc
-version_refused_by (Some f) new r e = e
+pub by_rows : {E : Type 0} (told : Option Feed) (k j : FeedCounts) (g : Feed) (s t : State) (mem : Memory) (c : code.Command) (v : SchemaVersion) (r : Result Reply Refusal) (held texts : List ℕ) (out : Result (List ℕ) E) → told ≡ Some g → BelongsTo g s mem
+    → version_read (cat_of s) (view_command c) ≡ Some v → held ≡ []
+    → IfSome told (λ f. BelongsTo f s mem → (given : List (List Value)) × GivenUpTo (row_text (row_kinds v)) (Some held) (Some texts) None None given (answer_of r) × Answers (caused_by (causes_between k.0 j.0 0 0)) f s (view_command c) (with_rows given r) t)
+    → IfErr r (λ e. IsTrue (is_fault (view_refusal e)) → caused_by (causes_between k.0 j.0 0 0) (view_refusal e)) → (k.0 < j.0 → answer_of r ≡ Err feed_fault) → (calls_feed (view_command c) ≡ false → j.1 ≡ k.1)
+    → IfOk out (λ all. all ≡ texts ++ result_text (answer_of r)) → IfOk out (Answered k j s t (view_command c) g)
+by_rows told k j g s t mem c v r held texts out is b some none machine causes failed quiet text =
+    let m = at_told (λ f. BelongsTo f s mem → (given : List (List Value)) × GivenUpTo (row_text (row_kinds v)) (Some held) (Some texts) None None given (answer_of r) × Answers (caused_by (causes_between k.0 j.0 0 0)) f s (view_command c) (with_rows given r) t) told g is machine b in
+    ok_map (λ all. all ≡ texts ++ result_text (answer_of r)) (Answered k j s t (view_command c) g) out
+    (λ all e. rows_answered k j g s t c v m.0 (answer_of r) held texts all some m.1 none m.2 (never_out k.0 j.0 r causes) failed quiet e) text
 
-pub version_refused : (cat : Catalogue) (t : List ℕ) (v : SchemaVersion) (r : Refusal) → version_of_text t ≡ Ok v → version_refusal cat v ≡ Some r → schema_fault_text cat t ≡ Some r
-version_refused cat t v r ok e = ap (λ (o : Result SchemaVersion JsonFault). option_map bad_schema (error_of (added_read cat o))) ok ∙ version_refused_by (schema_fault cat v) (with_version cat v) r e
+-- ---- want of memory, where nothing was done
 
-pub accepted : (cat : Catalogue) (t : List ℕ) (v : SchemaVersion) → version_of_text t ≡ Ok v → schema_fault cat v ≡ None → added_text cat t ≡ Ok (with_version cat v)
-accepted cat t v ok none = ap (added_read cat) ok ∙ ap (λ (o : Option SchemaFault). with_cause (err_or o (with_version cat v))) none
+lacks : (c : code.Command) → IsTrue (may_end_in (view_command c) out_of_memory)
+lacks (commands.Schema text) = refl
+lacks (commands.Retire table version) = refl
+lacks (commands.Pump stream count) = refl
+lacks (commands.Split table key) = refl
+lacks (commands.Scan query) = refl
+lacks commands.Status = refl
 
-pub schema_accepted : (cat : Catalogue) (n : ℕ) (items : List Item) (t : List ℕ) (v : SchemaVersion) → (n == 2 ^ 64 - 1) ≡ false → version_of_text t ≡ Ok v → schema_fault cat v ≡ None → refused (session_after cat n items) (do_schema t) ≡ None
-schema_accepted cat n items t v e ok none = schema_is cat n items t e ∙ ap (λ o. option_map bad_schema (error_of o)) (accepted cat t v ok none)
+pub by_lack : {E : Type 0} (told : Option Feed) (k : FeedCounts) (f g : Feed) (s : State) (mem : Memory) (c : code.Command) (out : Result (List ℕ) E) → told ≡ Some f → told ≡ Some g → BelongsTo f s mem → IfOk out (λ line. line ≡ refusal_text out_of_memory)
+    → IfOk out (Answered k k s s (view_command c) g)
+by_lack told k f g s mem c out d e b text =
+    let same : f ≡ g = cc in
+    let h = subst (λ (x : Feed). BelongsTo x s mem) same b in
+    ok_map (λ line. line ≡ refusal_text out_of_memory) (Answered k k s s (view_command c) g) out
+    (λ line is. machine_answered k k g s s (view_command c) (refuses out_of_memory) line
+    (h.0, h.1.fronts, inr (out_of_memory, refl, refl, lacks c, tt, inl refl, inl refl, inl (refl, refl)))
+    (λ e. cc) (λ l. absurd (omega (arith, l))) (λ q. refl) is) text
 
-pub names_are : (t : List ℕ) (v : SchemaVersion) → version_of_text t ≡ Ok v → names_version t ≡ (v.table, v.version)
-names_are t v ok = ap name_and_version ok
+-- a feed that tells one thing
+pub told_again : (told : Option Feed) (f g : Feed) (s : State) (mem : Memory) → told ≡ Some f → told ≡ Some g → BelongsTo f s mem → BelongsTo g s mem
+told_again told f g s mem d e b = let same : f ≡ g = cc in subst (λ (x : Feed). BelongsTo x s mem) same b
 
--- ---- retirements
+-- ---- the version that is read by
 
-abbrev pub retire_refusal : List ℕ → ℕ → RetireFault → Refusal
-retire_refusal name v unknown_table = no_such_table name
-retire_refusal name v unknown_version = no_such_version v
-retire_refusal name v already_retired = version_retired v
-retire_refusal name v last_version = is_last_version v
-
--- what a retirement is refused for, by the table that the name names
-abbrev retire_parts : List ℕ → ℕ → Option Table → Option Refusal
-retire_parts name v o = option_or (when (is_none o) (no_such_table name)) (option_or (when (is_none (option_and_then (λ x. registered x v) o)) (no_such_version v))
-    (option_or (when (option_map_or (λ r. not r.live) (option_and_then (λ x. registered x v) o) false) (version_retired v)) (option_or (option_and_then (λ x. when (v == length x.versions) (is_last_version v)) o) None)))
-
-retire_by : (cat : Catalogue) (n : ℕ) (items : List Item) (name : List ℕ) (v : ℕ)
-    → refused (session_after cat n items) (do_retire name v) ≡ option_or (when (is_worn (session_after cat n items).durable && true) worn) (retire_parts name v (table_named cat name))
-unfolding refused
-retire_by cat n items name v = refl
-
-retire_at : (cat : Catalogue) (n : ℕ) (items : List Item) (name : List ℕ) (v : ℕ) → (n == 2 ^ 64 - 1) ≡ false → refused (session_after cat n items) (do_retire name v) ≡ retire_parts name v (table_named cat name)
-retire_at cat n items name v e = retire_by cat n items name v ∙ ap (λ (b : Bool). option_or (when (b && true) worn) (retire_parts name v (table_named cat name))) (worn_at cat n items ∙ e)
-
-pub retire_worn : (cat : Catalogue) (n : ℕ) (items : List Item) (name : List ℕ) (v : ℕ) → (n == 2 ^ 64 - 1) ≡ true → refused (session_after cat n items) (do_retire name v) ≡ Some worn
-retire_worn cat n items name v e = retire_by cat n items name v ∙ ap (λ (b : Bool). option_or (when (b && true) worn) (retire_parts name v (table_named cat name))) (worn_at cat n items ∙ e)
-
-pub retire_unknown : (cat : Catalogue) (n : ℕ) (items : List Item) (name : List ℕ) (v : ℕ) → (n == 2 ^ 64 - 1) ≡ false → table_named cat name ≡ None → refused (session_after cat n items) (do_retire name v) ≡ Some (no_such_table name)
-retire_unknown cat n items name v e none = retire_at cat n items name v e ∙ ap (retire_parts name v) none
-
-live_parts : (name : List ℕ) (v : ℕ) (live l : Bool) → option_or (when (not live) (version_retired v)) (option_or (when l (is_last_version v)) None)
-    ≡ option_map (retire_refusal name v) (if not live then Some already_retired else when l last_version)
-live_parts name v true true = refl
-live_parts name v true false = refl
-live_parts name v false l = refl
-
-entry_parts : (name : List ℕ) (v : ℕ) (x : Option Registered) (l : Bool)
-    → option_or (when (is_none x) (no_such_version v)) (option_or (when (option_map_or (λ r. not r.live) x false) (version_retired v)) (option_or (when l (is_last_version v)) None))
-    ≡ option_map (retire_refusal name v) (if is_none x then Some unknown_version else (if not (option_map_or (λ r. r.live) x false) then Some already_retired else when l last_version))
-entry_parts name v None l = refl
-entry_parts name v (Some r) l = live_parts name v r.live l
-
--- the fault by the table that has the number
-abbrev fault_of : ℕ → Option Table → Option RetireFault
-fault_of v o = if is_none o then Some unknown_table else (if is_none (option_and_then (λ t. registered t v) o) then Some unknown_version
-    else (if not (option_map_or (λ r. r.live) (option_and_then (λ t. registered t v) o) false) then Some already_retired else when (v == length (option_map_or (λ t. t.versions) o [])) last_version))
-
-pub retire_is : (cat : Catalogue) (n : ℕ) (items : List Item) (name : List ℕ) (v : ℕ) (t : Table) → (n == 2 ^ 64 - 1) ≡ false → IsCatalogue cat → table_named cat name ≡ Some t
-    → refused (session_after cat n items) (do_retire name v) ≡ option_map (retire_refusal name v) (retire_fault cat t.number v)
-retire_is cat n items name v t e is named =
-    retire_at cat n items name v e ∙ ap (retire_parts name v) named ∙ entry_parts name v (registered t v) (v == length t.versions)
-    ∙ ap (λ (o : Option Table). option_map (retire_refusal name v) (fault_of v o)) (sym (named_is_numbered cat name t is named))
-
--- ---- scans
-
-abbrev pub asked : List ℕ → ℕ → ℕ → Query
-asked name v at = plain_query name v at None
-
-scan_by : (cat : Catalogue) (n : ℕ) (items : List Item) (name : List ℕ) (v at : ℕ) → let s = session_after cat n items in let c = do_scan (asked name v at) in
-    refused s c ≡ option_or (when (is_worn s.durable && false) worn) (option_or (when (is_none (table_named cat name)) (no_such_table name)) (option_or (when (is_none (registered_named cat name v)) (no_such_version v))
-    (option_or (when (option_map_or (λ r. not r.live) (registered_named cat name v) false) (version_retired v)) (option_or (bad_column_asked s c) (option_or (wrong_literal_asked s c) (option_or (too_old_asked s c) (option_or (not_safe_asked s c) None)))))))
-unfolding refused
-scan_by cat n items name v at = refl
-
-or_three : {A : Type 0} (a b c rest : Option A) → option_or a (option_or b (option_or c rest)) ≡ option_or (option_or a (option_or b (option_or c None))) rest
-or_three None None None rest = refl
-or_three None None (Some z) rest = refl
-or_three None (Some y) c rest = refl
-or_three (Some x) b c rest = refl
-
--- of a query for all of a table, no column and no literal is bad, and none is too old
-of_all : {A : Type 0} (o : Option Table) (v : ℕ) (F : Table → List Column → Option A) → ((t : Table) (cs : List Column) → F t cs ≡ None) → option_and_then (λ t. option_and_then (λ r. F t r.columns) (registered t v)) o ≡ None
-of_all None v F h = refl
-of_all {A} (Some t) v F h = by (registered t v)
+-- the table with a name has its version by its number
+numbered_version : (cat : Catalogue) (name : List ℕ) (number v : ℕ) → IsCatalogue cat → Some number ≡ option_map (λ (t : Table). t.number) (table_named cat name) → schema_version cat number v ≡ version_named cat name v
+numbered_version cat name number v lawful e = by (table_named cat name) refl e
   where
-    by : (x : Option Registered) → option_and_then (λ r. F t r.columns) x ≡ None
-    by None = refl
-    by (Some r) = h t r.columns
+    by : (o : Option Table) → table_named cat name ≡ o → Some number ≡ option_map (λ (t : Table). t.number) o → schema_version cat number v ≡ option_and_then (λ (t : Table). option_map (whole_version t v) (registered t v)) o
+    by None d e = absurd cc
+    by (Some t) d e =
+        let same : number ≡ t.number = cc in
+        ap (λ (m : ℕ). schema_version cat m v) same ∙ ap (option_and_then (λ (x : Table). option_map (whole_version x v) (registered x v))) (named_is_numbered cat name t lawful d)
 
-misfit_none : (ks : List KeyColumn) → part_misfit ks [] ≡ None
-misfit_none [] = refl
-misfit_none (k ∷ ks) = refl
-
-literals_none : (name : List ℕ) (v at : ℕ) (t : Table) (cs : List Column) → literals_fault t cs (asked name v at) ≡ None
-literals_none name v at t cs = ap (λ (o : Option (List ℕ)). first_of (o ∷ o ∷ o ∷ None ∷ [])) (misfit_none t.key)
-
-never_old : (at : ℕ) → nat_lt at 0 ≡ false
-never_old at = by (nat_lt at 0) refl
+no_table : (cat : Catalogue) (name : List ℕ) (v : ℕ) → None ≡ option_map (λ (t : Table). t.number) (table_named cat name) → None ≡ version_named cat name v
+no_table cat name v e = by (table_named cat name) e
   where
-    by : (b : Bool) → nat_lt at 0 ≡ b → nat_lt at 0 ≡ false
-    by true h = absurd (omega (arith, ltb-true at 0 h))
-    by false h = h
+    by : (o : Option Table) → None ≡ option_map (λ (t : Table). t.number) o → None ≡ option_and_then (λ (t : Table). option_map (whole_version t v) (registered t v)) o
+    by None e = refl
+    by (Some t) e = absurd cc
 
-no_column : (cat : Catalogue) (n : ℕ) (items : List Item) (name : List ℕ) (v at : ℕ) → bad_column_asked (session_after cat n items) (do_scan (asked name v at)) ≡ None
-no_column cat n items name v at = ap (λ (o : Option (List ℕ)). option_map bad_column (option_or o None)) (of_all (table_named cat name) v (λ t cs. columns_fault t cs (asked name v at)) (λ t cs. refl))
+abbrev number_named : Catalogue → List ℕ → Option ℕ
+number_named cat name = option_map (λ (t : Table). t.number) (table_named cat name)
 
-no_literal : (cat : Catalogue) (n : ℕ) (items : List Item) (name : List ℕ) (v at : ℕ) → wrong_literal_asked (session_after cat n items) (do_scan (asked name v at)) ≡ None
-no_literal cat n items name v at = ap (λ (o : Option (List ℕ)). option_map wrong_literal (option_or o None)) (of_all (table_named cat name) v (λ t cs. literals_fault t cs (asked name v at)) (literals_none name v at))
+-- a command without a query names none
+pub read_none : (cat : Catalogue) (c : code.Command) → ((q : queries.Query) → c ≡ commands.Scan q → ⊥) → None ≡ version_read cat (view_command c)
+read_none cat (commands.Schema text) h = refl
+read_none cat (commands.Retire table version) h = refl
+read_none cat (commands.Pump stream count) h = refl
+read_none cat (commands.Split table key) h = refl
+read_none cat (commands.Scan query) h = absurd (h query refl)
+read_none cat commands.Status h = refl
 
-not_old : (cat : Catalogue) (n : ℕ) (items : List Item) (name : List ℕ) (v at : ℕ) → too_old_asked (session_after cat n items) (do_scan (asked name v at)) ≡ None
-not_old cat n items name v at = of_all (table_named cat name) v (λ t cs. when (nat_lt at 0) (too_old 0)) (λ t cs. ap (λ (b : Bool). when b (too_old 0)) (never_old at))
+pub read_unnamed : (cat : Catalogue) (c : code.Command) (q : queries.Query) (name : List ℕ) → c ≡ commands.Scan q → name ≡ q.table → None ≡ number_named cat name → None ≡ version_read cat (view_command c)
+read_unnamed cat c q name is same e = no_table cat q.table q.version (e ∙ ap (number_named cat) same) ∙ ap (λ (x : code.Command). version_read cat (view_command x)) (sym is)
 
--- so a scan is refused for what it names, or because it is not safe
-scan_is : (cat : Catalogue) (n : ℕ) (items : List Item) (name : List ℕ) (v at : ℕ)
-    → refused (session_after cat n items) (do_scan (asked name v at)) ≡ option_or (named_fault cat name v) (option_or (not_safe_asked (session_after cat n items) (do_scan (asked name v at))) None)
-scan_is cat n items name v at =
-    let s = session_after cat n items in
-    let c = do_scan (asked name v at) in
-    let a = when (is_none (table_named cat name)) (no_such_table name) in
-    let b = when (is_none (registered_named cat name v)) (no_such_version v) in
-    let d = when (option_map_or (λ r. not r.live) (registered_named cat name v) false) (version_retired v) in
-    let last = option_or (not_safe_asked s c) None in
-    scan_by cat n items name v at
-    ∙ ap (λ (o : Option Refusal). option_or o (option_or a (option_or b (option_or d (option_or (bad_column_asked s c) (option_or (wrong_literal_asked s c) (option_or (too_old_asked s c) last))))))) (no_write (is_worn s.durable) worn)
-    ∙ ap (λ (o : Option Refusal). option_or a (option_or b (option_or d (option_or o (option_or (wrong_literal_asked s c) (option_or (too_old_asked s c) last)))))) (no_column cat n items name v at)
-    ∙ ap (λ (o : Option Refusal). option_or a (option_or b (option_or d (option_or o (option_or (too_old_asked s c) last))))) (no_literal cat n items name v at)
-    ∙ ap (λ (o : Option Refusal). option_or a (option_or b (option_or d (option_or o last)))) (not_old cat n items name v at)
-    ∙ or_three a b d last
-
-pub scan_unnamed : (cat : Catalogue) (n : ℕ) (items : List Item) (name : List ℕ) (v at : ℕ) (r : Refusal) → named_fault cat name v ≡ Some r → refused (session_after cat n items) (do_scan (asked name v at)) ≡ Some r
-scan_unnamed cat n items name v at r e = scan_is cat n items name v at ∙ ap (λ (o : Option Refusal). option_or o (option_or (not_safe_asked (session_after cat n items) (do_scan (asked name v at))) None)) e
-
--- a live version is named well
-abbrev named_by : List ℕ → ℕ → Option Table → Option Refusal
-named_by name v o = first_of (when (is_none o) (no_such_table name) ∷ when (is_none (option_and_then (λ x. registered x v) o)) (no_such_version v) ∷ when (option_map_or (λ r. not r.live) (option_and_then (λ x. registered x v) o) false) (version_retired v) ∷ [])
-
-abbrev entry_by : ℕ → Option Registered → Option Refusal
-entry_by v x = first_of (when (is_none x) (no_such_version v) ∷ when (option_map_or (λ r. not r.live) x false) (version_retired v) ∷ [])
-
-pub live_named : (cat : Catalogue) (name : List ℕ) (v : ℕ) (version : SchemaVersion) → IsLive cat name v version → named_fault cat name v ≡ None
-live_named cat name v version l = ap (named_by name v) l.named ∙ ap (entry_by v) l.found ∙ ap (λ (b : Bool). first_of (when (not b) (version_retired v) ∷ [])) l.live
-
--- the one partition meets the table's interval
-low_from_first : (xs : List ℕ) → greater_low [] xs ≡ xs
-low_from_first [] = refl
-low_from_first (x ∷ xs) = refl
-
-whole_meets : (t : Table) (name : List ℕ) (v at : ℕ) → t.number + 1 < 2 ^ 32 → meets all_keys (query_interval t (asked name v at)) ≡ true
-unfolding interval
-whole_meets t name v at h = ap (λ (k : List ℕ). not (not (below (greater_low [] k) (key_bytes (t.number + 1) [])))) (low_is (key_bytes t.number []))
-    ∙ ap (λ (k : List ℕ). not (not (below k (key_bytes (t.number + 1) [])))) (low_from_first (key_bytes t.number [])) ∙ ap (λ (b : Bool). not (not b)) (up_to_high t.number [] h)
-
-abbrev unsafe_at : ℕ → Bool → Option Refusal
-unsafe_at n b = option_map (λ (x : ℕ × ℕ). not_safe x.0 x.1) (option_map (λ (x : ℕ × (Range × ℕ)). (x.0, x.1.1)) (cond b (Some (0, (all_keys, n))) None))
-
-unsafe_by : (n : ℕ) (b : Bool) → unsafe_at n b ≡ cond b (Some (not_safe 0 n)) None
-unsafe_by n true = refl
-unsafe_by n false = refl
-
-below_at : (cat : Catalogue) (n o : ℕ) (p : Point) (names : List (List (List ℕ × ℕ))) (r : Range) (at : ℕ)
-    → option_map (λ (x : ℕ × ℕ). not_safe x.0 x.1) (first_below (session_at cat n (place o p) names) r at) ≡ unsafe_at (max 0 p.checkpoint) (meets all_keys r && nat_lt (max 0 p.checkpoint) at)
-below_at cat n o p names r at = refl
-
-abbrev asks_at : State → Range → ℕ → Option Refusal
-asks_at s r at = option_map (λ (x : ℕ × ℕ). not_safe x.0 x.1) (first_below s r at)
-
-safe_by : (cat : Catalogue) (n : ℕ) (items : List Item) (r : Range) (at : ℕ) (b : Bool) → AreFair cat items → meets all_keys r ≡ true → nat_lt (checkpoint_of only_header items) at ≡ b
-    → asks_at (session_after cat n items) r at ≡ cond b (Some (not_safe 0 (checkpoint_of only_header items))) None
-safe_by cat n items r at b f m e =
-    let c = checkpoint_of only_header items in
-    ap (λ (s : State). asks_at s r at) (session_is cat n items)
-    ∙ ap (λ (a : StreamAt). asks_at (session_at cat n a (pending_after items)) r at) (stands_at cat items f)
-    ∙ below_at cat n (place_after only_header items) (point_of only_header items) (pending_after items) r at
-    ∙ ap (λ (k : ℕ). unsafe_at (max 0 k) (meets all_keys r && nat_lt (max 0 k) at)) (point_checkpoint items)
-    ∙ ap (λ (k : ℕ). unsafe_at k (meets all_keys r && nat_lt k at)) (zero-max c)
-    ∙ ap (λ (x : Bool). unsafe_at c (x && nat_lt c at)) m
-    ∙ ap (unsafe_at c) e ∙ unsafe_by c b
-
-pub at_named : {A : Type 0} (o : Option Table) (v : ℕ) (F : Table → List Column → Option A) (t : Table) (r : Registered) → o ≡ Some t → registered t v ≡ Some r → option_and_then (λ t. option_and_then (λ r. F t r.columns) (registered t v)) o ≡ F t r.columns
-at_named o v F t r e d = ap (option_and_then (λ t. option_and_then (λ r. F t r.columns) (registered t v))) e ∙ ap (option_and_then (λ (r : Registered). F t r.columns)) d
-
--- a scan by a live version is refused exactly above the checkpoint
-pub scan_refused : (cat : Catalogue) (n : ℕ) (items : List Item) (name : List ℕ) (v at : ℕ) (version : SchemaVersion) (b : Bool) → AreFair cat items → (l : IsLive cat name v version) → l.table.number + 1 < 2 ^ 32
-    → nat_lt (checkpoint_of only_header items) at ≡ b → refused (session_after cat n items) (do_scan (asked name v at)) ≡ cond b (Some (not_safe 0 (checkpoint_of only_header items))) None
-scan_refused cat n items name v at version b f l small e =
-    let s = session_after cat n items in
-    let q = asked name v at in
-    scan_is cat n items name v at
-    ∙ ap (λ (o : Option Refusal). option_or o (option_or (not_safe_asked s (do_scan q)) None)) (live_named cat name v version l)
-    ∙ or_none (not_safe_asked s (do_scan q))
-    ∙ at_named (table_named cat name) v (λ t cs. asks_at s (query_interval t q) at) l.table l.entry l.named l.found
-    ∙ safe_by cat n items (query_interval l.table q) at b f (whole_meets l.table name v at small) e
+pub read_named : (cat : Catalogue) (c : code.Command) (q : queries.Query) (name : List ℕ) (number : ℕ) → c ≡ commands.Scan q → name ≡ q.table → IsCatalogue cat → Some number ≡ number_named cat name → schema_version cat number q.version ≡ version_read cat (view_command c)
+read_named cat c q name number is same lawful e = numbered_version cat q.table number q.version lawful (e ∙ ap (number_named cat) same) ∙ ap (λ (x : code.Command). version_read cat (view_command x)) (sym is)

@@ -1,16 +1,17 @@
 -- How a call of the program ends where no script runs, and where one does.
 use Rattle.std.proofs.lemmas.Fmt.{decimal_digit}
-use Rattle.std.proofs.Common.{◌≡◌, ◌≤◌, ℕ, List, [], ◌∷◌, ◌++◌, refl, sym, ap, ◌∙◌, append-nil, arith, false, inr, true}
-use Rattle.std.specs.Prelude.{IfSome, None, Option, Some, codes, decimal}
+use Rattle.std.proofs.Common.{◌≡◌, ◌≤◌, ℕ, List, [], ◌∷◌, ◌++◌, refl, subst, sym, ap, ◌∙◌, append-nil, arith, false, inr, true}
+use Rattle.std.specs.Prelude.{Err, IfErr, IfSome, None, Option, Result, Some, codes, decimal}
 use Rattle.lt_model.specs.Fair.{Feed, Grows}
 use Rattle.lt_model.specs.Reply.{text_line}
-use Rattle.lt_model.specs.Run.{HasBegun, StartFault, start_feed, start_mismatch, start_status, start_text, usage_text}
+use Rattle.lt_model.specs.Log.{Header}
+use Rattle.lt_model.specs.Machine.{State}
+use Rattle.lt_model.specs.Run.{Attaches, HasBegun, IsMismatch, StartFault, start_feed, start_mismatch, start_status, start_text, usage_text}
 use Rattle.lt_model.specs.Program.{IsFront, Told, cut_at_once, stops, stops_cut}
-use Rattle.lt_model.specs.Schema.{Catalogue}
-use Rattle.lt_model.specs.OneStream.{Did, HasTaken, IsOneStream, NotBegun, is_run, not_begun, ran, usage, usage_cut}
-use Rattle.lt_model.specs.Outside.{FeedGrows, StaysTold}
+use Rattle.lt_model.specs.InMemory.{Did, NotBegun, is_run, not_begun, ran, session_over, usage, usage_cut}
+use Rattle.lt_engine.specs.declared.refusal.StartRefusal.{StartRefusal}
+use Rattle.lt_engine.specs.declared.refusal.StartRefusal.TheVariants as refusals
 use Rattle.lightning_cli.specs.Serving.{Served}
-use Rattle.lightning_cli.proofs.TakeLaws.{taken_grows}
 
 -- ---- the fixed lines
 
@@ -20,9 +21,8 @@ usage_is = refl
 pub feed_fault_is : codes "stopped 7 FeedFault\n" ≡ start_text start_feed
 feed_fault_is = sym (ap (λ d. text_line (codes "stopped" ∷ d ∷ codes "FeedFault" ∷ [])) (decimal_digit 7 (omega arith)))
 
-pub mismatch_is : codes "stopped 8 FeedMismatch 0\n" ≡ start_text (start_mismatch 0)
-mismatch_is = sym (ap (λ d. text_line (codes "stopped" ∷ d ∷ codes "FeedMismatch" ∷ decimal 0 ∷ [])) (decimal_digit 8 (omega arith))
-    ∙ ap (λ d. text_line (codes "stopped" ∷ codes "8" ∷ codes "FeedMismatch" ∷ d ∷ [])) (decimal_digit 0 (omega arith)))
+pub mismatch_is : (n : ℕ) → start_text (start_mismatch n) ≡ codes "stopped 8 FeedMismatch " ++ (decimal n ++ codes "\n")
+mismatch_is n = ap (λ d. text_line (codes "stopped" ∷ d ∷ codes "FeedMismatch" ∷ decimal n ∷ [])) (decimal_digit 8 (omega arith))
 
 -- ---- other words
 
@@ -42,7 +42,7 @@ usage_did_cut words old new front other begins script wrote = record {
   ends = usage_cut other refl begins refl refl;
 }
 
--- ---- no session begins
+-- ---- no replica begins
 
 pub stopped_did : (words : List (List ℕ)) (old new : Told) (e : StartFault) → is_run words ≡ true → NotBegun old new e → new.script ≡ old.script → new.written ≡ old.written ++ start_text e → Did words old new (start_status e)
 stopped_did words old new e asked caused script wrote = record {
@@ -68,25 +68,25 @@ lacked_did words old new asked script written = record {
   ends = not_begun asked (cut_at_once (inr refl) refl) refl refl;
 }
 
+-- the stream that does not fit
+pub mismatched : {A : Type 0} (told : Option Feed) (a b : ℕ) (r : Result A StartRefusal) (n : ℕ) → r ≡ Err (refusals.Mismatch n) → IfErr r (λ e. (m : ℕ) → e ≡ refusals.Mismatch m → (b ≡ a) × IfSome told (λ f. IsMismatch f None m))
+    → (b ≡ a) × IfSome told (λ f. IsMismatch f None n)
+mismatched told a b r n is h = (subst (λ x. IfErr x (λ e. (m : ℕ) → e ≡ refusals.Mismatch m → (b ≡ a) × IfSome told (λ f. IsMismatch f None m))) is h) n refl
+
+pub mismatched_told : (told : Option Feed) (n : ℕ) → IfSome told (λ f. IsMismatch f None n) → IfSome told (λ f. (m : ℕ) × IsMismatch f None m)
+mismatched_told None n h = tt
+mismatched_told (Some f) n h = (n, h)
+
 -- ---- a script runs
 
--- what the objects tell and count where the session begins
+-- what the objects tell and count where the replica begins
 abbrev pub begun : Told → Feed → ℕ → Told
 begun old f calls = record { feed = f; script = old.script; written = old.written; counts = record old.counts { calls = calls } }
 
-pub none_taken : (f : Feed) (cat : Catalogue) → IsOneStream f → HasTaken f cat []
-none_taken f cat one = record { stream = one; rest = _; takes = refl }
-
--- one stream stays one
-pub one_stays : (o p : Option Feed) → StaysTold o p → FeedGrows o p → IfSome o IsOneStream → IfSome p IsOneStream
-one_stays None None s h a = tt
-one_stays None (Some g) s h a = absurd (let e : false ≡ true = s.1 refl in cc)
-one_stays (Some f) None s h a = tt
-one_stays (Some f) (Some g) s h a = (taken_grows f g [] [] h (none_taken f [] a)).stream
-
-pub ran_did : (words : List (List ℕ)) (old new : Told) (f : Feed) (calls : ℕ) {status : ℕ} → is_run words ≡ true → Grows old.feed f → old.counts.calls ≤ calls → IsOneStream f → Served (begun old f calls) new status
-    → Did words old new status
-ran_did words old new f calls asked grows later one s =
+pub ran_did : (words : List (List ℕ)) (old new : Told) (f : Feed) (calls : ℕ) (hs : List Header) (s0 : State) {status : ℕ} → is_run words ≡ true → Grows old.feed f → old.counts.calls ≤ calls → Attaches f None hs → s0 ≡ session_over hs
+    → Served (begun old f calls) new s0 status → Did words old new status
+ran_did words old new f calls hs s0 {status} asked grows later attaches begins served =
     let n = record old.counts { calls = calls } in
-    let begins : HasBegun old.counts n = record { feed = refl; calls = later; script = refl; disk = refl; writes = refl; out = refl; clock = omega arith } in
-    record { trace = s.trace; took = s.took; wrote = s.wrote; ends = ran asked f n grows begins one s.ends s.over }
+    let has : HasBegun old.counts n = record { feed = refl; calls = later; script = refl; disk = refl; writes = refl; out = refl; clock = omega arith } in
+    let s = subst (λ (x : State). Served (begun old f calls) new x status) begins served in
+    record { trace = s.trace; took = s.took; wrote = s.wrote; ends = ran asked hs f n grows has attaches s.ends s.over }

@@ -7,9 +7,13 @@ use Rattle.lt_model.specs.Script.{script_lines}
 use Rattle.lt_model.specs.Disk.{Rose}
 use Rattle.lt_model.specs.Run.{AreLater, Counts, IsOver, Moment, Runs, counts_after, lines_ended, max_script, script_fault_text, too_long_text}
 use Rattle.lt_model.specs.Program.{IsCut, IsFront, Told, all_answered, ended_early, in_last_line, in_replies, in_script_fault, in_too_long, script_failed, script_too_long}
-use Rattle.lt_model.specs.OneStream.{only_rules, only_session}
-use Rattle.lightning_cli.specs.Sessions.{Belongs, FeedCounts, feed_counts, state_of}
-use Rattle.lightning_cli.specs.declared.session.Session.{Session}
+use Rattle.lt_model.specs.InMemory.{line_rules}
+use Rattle.lt_model.specs.Machine.{State}
+use Rattle.lt_model.specs.Outside.{BelongsTo}
+use Rattle.lt_pump.specs.Feeds.{FeedCounts}
+use Rattle.lt_engine.specs.State.{memory_of, state_of}
+use Rattle.lt_engine.specs.declared.replica.Replica.{Replica}
+use Rattle.lightning_cli.specs.Commands.{feed_counts}
 use Rattle.lightning_cli.specs.Serving.{HasRun, HasRunSome, IsServing, SameDisk, Served, Stands, open_line, with_feed}
 use Rattle.lightning_cli.proofs.PieceLaws.{all_lines}
 
@@ -44,22 +48,22 @@ later_counts n0 m k feed out script same = record {
   clock = omega (arith, same.clock);
 }
 
-pub run_over : {f0 : Feed} {n0 : Counts} {lines : List (List ℕ)} {written : List ℕ} {f : Feed} {k : FeedCounts} {session : Session} {replies : List ℕ} (h : HasRun f0 n0 lines written f k session replies) (status : ℕ) (g : Feed) (m : Counts)
+pub run_over : {f0 : Feed} {n0 : Counts} {s0 : State} {lines : List (List ℕ)} {written : List ℕ} {f : Feed} {k : FeedCounts} {replica : Replica} {replies : List ℕ} (h : HasRun f0 n0 s0 lines written f k replica replies) (status : ℕ) (g : Feed) (m : Counts)
     → Grows f g → k ≡ feed_counts m → n0.out ≤ m.out → n0.script ≤ m.script → SameDisk n0 m → IsOver f0 n0 h.moments status g m
-run_over {f0} {n0} {lines} {written} {f} {k} h status g m grows feed out script same = record {
+run_over {f0} {n0} {s0} {lines} {written} {f} {k} h status g m grows feed out script same = record {
   grows = subst (λ x. Grows x g) (sym h.feed) grows;
   later = subst (λ x. AreLater x m) (sym h.counts) (later_counts n0 m k feed out script same);
   feed_kept = λ other. ap (λ c. c.0) (sym feed) ∙ sym (ap (λ (n : Counts). n.feed) h.counts);
   not_called = λ other. ap (λ c. c.1) (sym feed) ∙ sym (ap (λ (n : Counts). n.calls) h.counts);
 }
 
-pub part_short : {f0 : Feed} {n0 : Counts} {bytes written : List ℕ} {f : Feed} {k : FeedCounts} {status : ℕ} (h : HasRunSome f0 n0 bytes written f k status) → length bytes ≤ max_script → length h.part ≤ max_script
+pub part_short : {f0 : Feed} {n0 : Counts} {s0 : State} {bytes written : List ℕ} {f : Feed} {k : FeedCounts} {status : ℕ} (h : HasRunSome f0 n0 s0 bytes written f k status) → length bytes ≤ max_script → length h.part ≤ max_script
 part_short h short = omega (arith, short, ap length h.begins.1, length-append h.part h.begins.0)
 
 -- where some first lines were answered and a front of their text was written, a failing sink or want of memory ends the run
-pub some_served : (old now : Told) (bytes written : List ℕ) (f : Feed) (k : FeedCounts) (status : ℕ) (h : HasRunSome old.feed old.counts bytes written f k status) → length h.part ≤ max_script → IsCut status
-    → f ≡ now.feed → old.script ≡ bytes ++ now.script → now.written ≡ old.written ++ written → k ≡ feed_counts now.counts → old.counts.out ≤ now.counts.out → old.counts.script ≤ now.counts.script → SameDisk old.counts now.counts → Served old now status
-some_served old now bytes written f k status h short cut same took wrote feed out script disk = record {
+pub some_served : {s0 : State} (old now : Told) (bytes written : List ℕ) (f : Feed) (k : FeedCounts) (status : ℕ) (h : HasRunSome old.feed old.counts s0 bytes written f k status) → length h.part ≤ max_script → IsCut status
+    → f ≡ now.feed → old.script ≡ bytes ++ now.script → now.written ≡ old.written ++ written → k ≡ feed_counts now.counts → old.counts.out ≤ now.counts.out → old.counts.script ≤ now.counts.script → SameDisk old.counts now.counts → Served old now s0 status
+some_served {s0} old now bytes written f k status h short cut same took wrote feed out script disk = record {
   trace = record { taken = bytes; written = written; moments = h.moments };
   took = took;
   wrote = wrote;
@@ -69,34 +73,34 @@ some_served old now bytes written f k status h short cut same took wrote feed ou
 }
 
 -- all lines were answered, the last one too, and all replies were written
-pub all_served : (old now : Told) (bytes written : List ℕ) {session : Session} {replies : List ℕ} → HasRun old.feed old.counts (lines_ended bytes ++ open_line bytes ∷ []) written now.feed (feed_counts now.counts) session replies
-    → old.script ≡ bytes → now.script ≡ [] → length bytes ≤ 2 ^ 32 → now.written ≡ old.written ++ (written ++ replies) → old.counts.out ≤ now.counts.out → old.counts.script ≤ now.counts.script → SameDisk old.counts now.counts → Served old now 0
-all_served old now bytes written {session} {replies} h whole at_end short wrote out script disk = record {
+pub all_served : {s0 : State} (old now : Told) (bytes written : List ℕ) {replica : Replica} {replies : List ℕ} → HasRun old.feed old.counts s0 (lines_ended bytes ++ open_line bytes ∷ []) written now.feed (feed_counts now.counts) replica replies
+    → old.script ≡ bytes → now.script ≡ [] → length bytes ≤ 2 ^ 32 → now.written ≡ old.written ++ (written ++ replies) → old.counts.out ≤ now.counts.out → old.counts.script ≤ now.counts.script → SameDisk old.counts now.counts → Served old now s0 0
+all_served {s0} old now bytes written {replica} {replies} h whole at_end short wrote out script disk = record {
   trace = record { taken = bytes; written = written ++ replies; moments = h.moments };
   took = whole ∙ sym (append-nil bytes) ∙ ap (λ x. bytes ++ x) (sym at_end);
   wrote = wrote;
   ends = all_answered refl (sym whole) (subst (λ x. length x ≤ 2 ^ 32) (sym whole) short)
-      (subst (λ ls. Runs only_rules old.feed old.counts only_session ls h.moments) (sym (all_lines bytes) ∙ ap script_lines (sym whole)) h.runs) (sym h.text);
+      (subst (λ ls. Runs line_rules old.feed old.counts s0 ls h.moments) (sym (all_lines bytes) ∙ ap script_lines (sym whole)) h.runs) (sym h.text);
   over = run_over h 0 now.feed now.counts (grows_itself now.feed) refl out script disk;
 }
 
 -- the same where a failing sink took a front of the last replies
-pub all_cut : (old now : Told) (bytes written front : List ℕ) {session : Session} {replies : List ℕ} → HasRun old.feed old.counts (lines_ended bytes ++ open_line bytes ∷ []) written now.feed (feed_counts now.counts) session replies
-    → IsFront front replies → old.script ≡ bytes → now.script ≡ [] → length bytes ≤ 2 ^ 32 → now.written ≡ old.written ++ (written ++ front) → old.counts.out ≤ now.counts.out → old.counts.script ≤ now.counts.script → SameDisk old.counts now.counts → Served old now 4
-all_cut old now bytes written front {session} {replies} h begins whole at_end short wrote out script disk = record {
+pub all_cut : {s0 : State} (old now : Told) (bytes written front : List ℕ) {replica : Replica} {replies : List ℕ} → HasRun old.feed old.counts s0 (lines_ended bytes ++ open_line bytes ∷ []) written now.feed (feed_counts now.counts) replica replies
+    → IsFront front replies → old.script ≡ bytes → now.script ≡ [] → length bytes ≤ 2 ^ 32 → now.written ≡ old.written ++ (written ++ front) → old.counts.out ≤ now.counts.out → old.counts.script ≤ now.counts.script → SameDisk old.counts now.counts → Served old now s0 4
+all_cut {s0} old now bytes written front {replica} {replies} h begins whole at_end short wrote out script disk = record {
   trace = record { taken = bytes; written = written ++ front; moments = h.moments };
   took = whole ∙ sym (append-nil bytes) ∙ ap (λ x. bytes ++ x) (sym at_end);
   wrote = wrote;
   ends = ended_early (inl refl) (in_last_line (sym whole) (subst (λ x. length x ≤ 2 ^ 32) (sym whole) short)
-      (subst (λ ls. Runs only_rules old.feed old.counts only_session ls h.moments) (sym (all_lines bytes) ∙ ap script_lines (sym whole)) h.runs)
+      (subst (λ ls. Runs line_rules old.feed old.counts s0 ls h.moments) (sym (all_lines bytes) ∙ ap script_lines (sym whole)) h.runs)
       (begins.0, h.text ∙ ap (λ x. written ++ x) begins.1 ∙ sym (append_assoc written front begins.0)));
   over = run_over h 4 now.feed now.counts (grows_itself now.feed) refl out script disk;
 }
 
 -- the script failed: the lines ended in what was taken were answered
-pub fault_served : (old now : Told) (bytes written : List ℕ) {session : Session} → HasRun old.feed old.counts (lines_ended bytes) written now.feed (feed_counts now.counts) session []
-    → Rose old.counts.script now.counts.script → length bytes ≤ max_script → old.script ≡ bytes ++ now.script → now.written ≡ old.written ++ (written ++ script_fault_text) → old.counts.out ≤ now.counts.out → old.counts.script ≤ now.counts.script → SameDisk old.counts now.counts → Served old now 3
-fault_served old now bytes written h rose short took wrote out script disk = record {
+pub fault_served : {s0 : State} (old now : Told) (bytes written : List ℕ) {replica : Replica} → HasRun old.feed old.counts s0 (lines_ended bytes) written now.feed (feed_counts now.counts) replica []
+    → Rose old.counts.script now.counts.script → length bytes ≤ max_script → old.script ≡ bytes ++ now.script → now.written ≡ old.written ++ (written ++ script_fault_text) → old.counts.out ≤ now.counts.out → old.counts.script ≤ now.counts.script → SameDisk old.counts now.counts → Served old now s0 3
+fault_served {s0} old now bytes written h rose short took wrote out script disk = record {
   trace = record { taken = bytes; written = written ++ script_fault_text; moments = h.moments };
   took = took;
   wrote = wrote;
@@ -104,9 +108,9 @@ fault_served old now bytes written h rose short took wrote out script disk = rec
   over = run_over h 3 now.feed now.counts (grows_itself now.feed) refl out script disk;
 }
 
-pub fault_cut : (old now : Told) (bytes written front : List ℕ) {session : Session} → HasRun old.feed old.counts (lines_ended bytes) written now.feed (feed_counts now.counts) session []
-    → IsFront front script_fault_text → Rose old.counts.script now.counts.script → length bytes ≤ max_script → old.script ≡ bytes ++ now.script → now.written ≡ old.written ++ (written ++ front) → old.counts.out ≤ now.counts.out → old.counts.script ≤ now.counts.script → SameDisk old.counts now.counts → Served old now 4
-fault_cut old now bytes written front h begins rose short took wrote out script disk = record {
+pub fault_cut : {s0 : State} (old now : Told) (bytes written front : List ℕ) {replica : Replica} → HasRun old.feed old.counts s0 (lines_ended bytes) written now.feed (feed_counts now.counts) replica []
+    → IsFront front script_fault_text → Rose old.counts.script now.counts.script → length bytes ≤ max_script → old.script ≡ bytes ++ now.script → now.written ≡ old.written ++ (written ++ front) → old.counts.out ≤ now.counts.out → old.counts.script ≤ now.counts.script → SameDisk old.counts now.counts → Served old now s0 4
+fault_cut {s0} old now bytes written front h begins rose short took wrote out script disk = record {
   trace = record { taken = bytes; written = written ++ front; moments = h.moments };
   took = took;
   wrote = wrote;
@@ -121,36 +125,36 @@ first_bytes : (script bytes rest : List ℕ) → length bytes ≡ max_script →
 first_bytes script bytes rest full e = ap (take max_script) e ∙ take_at bytes rest max_script full
 
 -- the script is too long: the lines ended within the longest were answered
-pub long_served : (old now : Told) (bytes more written : List ℕ) {session : Session} → HasRun old.feed old.counts (lines_ended bytes) written now.feed (feed_counts now.counts) session []
-    → length bytes ≡ max_script → 0 < length more → old.script ≡ (bytes ++ more) ++ now.script → now.written ≡ old.written ++ (written ++ too_long_text) → old.counts.out ≤ now.counts.out → old.counts.script ≤ now.counts.script → SameDisk old.counts now.counts → Served old now 9
-long_served old now bytes more written h full over took wrote out script disk =
+pub long_served : {s0 : State} (old now : Told) (bytes more written : List ℕ) {replica : Replica} → HasRun old.feed old.counts s0 (lines_ended bytes) written now.feed (feed_counts now.counts) replica []
+    → length bytes ≡ max_script → 0 < length more → old.script ≡ (bytes ++ more) ++ now.script → now.written ≡ old.written ++ (written ++ too_long_text) → old.counts.out ≤ now.counts.out → old.counts.script ≤ now.counts.script → SameDisk old.counts now.counts → Served old now s0 9
+long_served {s0} old now bytes more written h full over took wrote out script disk =
     let e : old.script ≡ bytes ++ (more ++ now.script) = took ∙ append_assoc bytes more now.script in
     record {
       trace = record { taken = bytes ++ more; written = written ++ too_long_text; moments = h.moments };
       took = took;
       wrote = wrote;
-      ends = script_too_long refl (is_long old.script bytes more now.script full over e) (subst (λ b. Runs only_rules old.feed old.counts only_session (lines_ended b) h.moments) (sym (first_bytes old.script bytes (more ++ now.script) full e)) h.runs)
+      ends = script_too_long refl (is_long old.script bytes more now.script full over e) (subst (λ b. Runs line_rules old.feed old.counts s0 (lines_ended b) h.moments) (sym (first_bytes old.script bytes (more ++ now.script) full e)) h.runs)
           (ap (λ x. x ++ too_long_text) (sym (h.text ∙ append-nil written)));
       over = run_over h 9 now.feed now.counts (grows_itself now.feed) refl out script disk;
     }
 
-pub long_cut : (old now : Told) (bytes more written front : List ℕ) {session : Session} → HasRun old.feed old.counts (lines_ended bytes) written now.feed (feed_counts now.counts) session []
-    → IsFront front too_long_text → length bytes ≡ max_script → 0 < length more → old.script ≡ (bytes ++ more) ++ now.script → now.written ≡ old.written ++ (written ++ front) → old.counts.out ≤ now.counts.out → old.counts.script ≤ now.counts.script → SameDisk old.counts now.counts → Served old now 4
-long_cut old now bytes more written front h begins full over took wrote out script disk =
+pub long_cut : {s0 : State} (old now : Told) (bytes more written front : List ℕ) {replica : Replica} → HasRun old.feed old.counts s0 (lines_ended bytes) written now.feed (feed_counts now.counts) replica []
+    → IsFront front too_long_text → length bytes ≡ max_script → 0 < length more → old.script ≡ (bytes ++ more) ++ now.script → now.written ≡ old.written ++ (written ++ front) → old.counts.out ≤ now.counts.out → old.counts.script ≤ now.counts.script → SameDisk old.counts now.counts → Served old now s0 4
+long_cut {s0} old now bytes more written front h begins full over took wrote out script disk =
     let e : old.script ≡ bytes ++ (more ++ now.script) = took ∙ append_assoc bytes more now.script in
     record {
       trace = record { taken = bytes ++ more; written = written ++ front; moments = h.moments };
       took = took;
       wrote = wrote;
-      ends = ended_early (inl refl) (in_too_long refl (is_long old.script bytes more now.script full over e) (subst (λ b. Runs only_rules old.feed old.counts only_session (lines_ended b) h.moments) (sym (first_bytes old.script bytes (more ++ now.script) full e)) h.runs)
+      ends = ended_early (inl refl) (in_too_long refl (is_long old.script bytes more now.script full over e) (subst (λ b. Runs line_rules old.feed old.counts s0 (lines_ended b) h.moments) (sym (first_bytes old.script bytes (more ++ now.script) full e)) h.runs)
           (begins.0, ap (λ x. x ++ too_long_text) (h.text ∙ append-nil written) ∙ ap (λ x. written ++ x) begins.1 ∙ sym (append_assoc written front begins.0)));
       over = run_over h 4 now.feed now.counts (grows_itself now.feed) refl out script disk;
     }
 
 -- where some first lines of what was taken were answered, of which a last piece was only read
-pub some_more : (old mid now : Told) (bytes piece more written : List ℕ) {status : ℕ} (f : Feed) (k : FeedCounts) → HasRunSome old.feed old.counts (bytes ++ piece) written f k status → length bytes + length piece ≤ max_script → IsCut status
+pub some_more : {s0 : State} (old mid now : Told) (bytes piece more written : List ℕ) {status : ℕ} (f : Feed) (k : FeedCounts) → HasRunSome old.feed old.counts s0 (bytes ++ piece) written f k status → length bytes + length piece ≤ max_script → IsCut status
     → old.script ≡ bytes ++ mid.script → mid.script ≡ (piece ++ more) ++ now.script → now.written ≡ old.written ++ written → f ≡ now.feed → k ≡ feed_counts now.counts → old.counts.out ≤ now.counts.out → old.counts.script ≤ now.counts.script → SameDisk old.counts now.counts
-    → Served old now status
+    → Served old now s0 status
 some_more old mid now bytes piece more written {status} f k h short cut took part wrote same feed out script disk =
     some_served old now (bytes ++ (piece ++ more)) written f k status
     (record {
@@ -165,9 +169,9 @@ some_more old mid now bytes piece more written {status} f k h short cut took par
     cut same (took ∙ ap (λ x. bytes ++ x) part ∙ sym (append_assoc bytes (piece ++ more) now.script)) wrote feed out script disk
 
 -- some first replies were written, and the others are kept
-pub flushed_some : {f0 : Feed} {n0 : Counts} {bytes written : List ℕ} {f : Feed} {k : FeedCounts} {session : Session} {replies kept : List ℕ} (first now : List ℕ) → replies ≡ first ++ now
-    → Stands f0 n0 bytes written f k session replies kept → Stands f0 n0 bytes (written ++ first) f k session now kept
-flushed_some {f0} {n0} {bytes} {written} first now e s = record {
+pub flushed_some : {f0 : Feed} {n0 : Counts} {s0 : State} {bytes written : List ℕ} {f : Feed} {k : FeedCounts} {replica : Replica} {replies kept : List ℕ} (first now : List ℕ) → replies ≡ first ++ now
+    → Stands f0 n0 s0 bytes written f k replica replies kept → Stands f0 n0 s0 bytes (written ++ first) f k replica now kept
+flushed_some {f0} {n0} {s0} {bytes} {written} first now e s = record {
   run = record {
     moments = s.run.moments;
     runs = s.run.runs;
@@ -181,16 +185,16 @@ flushed_some {f0} {n0} {bytes} {written} first now e s = record {
 }
 
 -- replies that were written are no longer kept
-pub flushed : {f0 : Feed} {n0 : Counts} {bytes written : List ℕ} {f : Feed} {k : FeedCounts} {session : Session} {replies kept : List ℕ} (now : List ℕ) → now ≡ [] → Stands f0 n0 bytes written f k session replies kept → Stands f0 n0 bytes (written ++ replies) f k session now kept
-flushed {f0} {n0} {bytes} {written} {f} {k} {session} {replies} {kept} now empty s = flushed_some replies now (sym (append-nil replies) ∙ ap (λ r. replies ++ r) (sym empty)) s
+pub flushed : {f0 : Feed} {n0 : Counts} {s0 : State} {bytes written : List ℕ} {f : Feed} {k : FeedCounts} {replica : Replica} {replies kept : List ℕ} (now : List ℕ) → now ≡ [] → Stands f0 n0 s0 bytes written f k replica replies kept → Stands f0 n0 s0 bytes (written ++ replies) f k replica now kept
+flushed {f0} {n0} {s0} {bytes} {written} {f} {k} {replica} {replies} {kept} now empty s = flushed_some replies now (sym (append-nil replies) ∙ ap (λ r. replies ++ r) (sym empty)) s
 
 pub regroup : (a b c d : List ℕ) → a ++ ((b ++ c) ++ d) ≡ ((a ++ b) ++ c) ++ d
 regroup a b c d = sym (append_assoc a (b ++ c) d) ∙ ap (λ x. x ++ d) (sym (append_assoc a b c))
 
 -- a run that begins
-pub begins : (old now : Told) (session : Session) → state_of session ≡ only_session → now.feed ≡ old.feed → now.script ≡ old.script → now.written ≡ old.written → feed_counts now.counts ≡ feed_counts old.counts → now.counts.out ≡ old.counts.out → now.counts.script ≡ old.counts.script → Belongs old.feed session
-    → IsServing old now 0 session [] []
-begins old now session fresh feed script written faults out script_faults has = record {
+pub begins : (old now : Told) (replica : Replica) → now.feed ≡ old.feed → now.script ≡ old.script → now.written ≡ old.written → feed_counts now.counts ≡ feed_counts old.counts → now.counts.out ≡ old.counts.out → now.counts.script ≡ old.counts.script
+    → BelongsTo old.feed (state_of replica) (memory_of replica) → IsServing old now (state_of replica) 0 replica [] []
+begins old now replica feed script written faults out script_faults has = record {
   bytes = [];
   written = [];
   number = refl;
@@ -198,12 +202,12 @@ begins old now session fresh feed script written faults out script_faults has = 
   wrote = written ∙ sym (append-nil old.written);
   out = out;
   script = script_faults;
-  stands = subst (λ f. Stands old.feed old.counts [] [] f (feed_counts now.counts) session [] []) (sym feed) (subst (λ k. Stands old.feed old.counts [] [] old.feed k session [] []) (sym faults) (record {
-    run = record { moments = []; runs = tt; feed = refl; counts = refl; state = sym fresh; has = has; text = refl };
+  stands = subst (λ f. Stands old.feed old.counts (state_of replica) [] [] f (feed_counts now.counts) replica [] []) (sym feed) (subst (λ k. Stands old.feed old.counts (state_of replica) [] [] old.feed k replica [] []) (sym faults) (record {
+    run = record { moments = []; runs = tt; feed = refl; counts = refl; state = refl; has = has; text = refl };
     line = refl;
   }));
 }
 
-pub serving_to : {old now : Told} {count : ℕ} {session more : Session} {replies later kept line : List ℕ} → session ≡ more → replies ≡ later → kept ≡ line → IsServing old now count session replies kept → IsServing old now count more later line
-serving_to {old} {now} {count} {session} {more} {replies} {later} {kept} {line} e f h s =
-    subst (λ x. IsServing old now count x later line) e (subst (λ x. IsServing old now count session x line) f (subst (λ x. IsServing old now count session replies x) h s))
+pub serving_to : {old now : Told} {s0 : State} {count : ℕ} {replica more : Replica} {replies later kept line : List ℕ} → replica ≡ more → replies ≡ later → kept ≡ line → IsServing old now s0 count replica replies kept → IsServing old now s0 count more later line
+serving_to {old} {now} {s0} {count} {replica} {more} {replies} {later} {kept} {line} e f h s =
+    subst (λ x. IsServing old now s0 count x later line) e (subst (λ x. IsServing old now s0 count replica x line) f (subst (λ x. IsServing old now s0 count replica replies x) h s))

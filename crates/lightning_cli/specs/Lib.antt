@@ -1,8 +1,3 @@
-pub mod Sessions
+pub mod Commands
 pub mod Serving
 pub mod Turns
-pub mod Pumps
-pub mod Stops
-pub mod Steps
-pub mod Fairness
-pub mod Answers

@@ -2,14 +2,17 @@
 use Rattle.std.specs.Prelude.{IfSome, List, Option, Some, [], length, ℕ, ◌+◌, ◌++◌, ◌∷◌, ◌≡◌, ◌≤◌, ◌⊎◌}
 use Rattle.std.specs.Io.KnownBytes.{Appends}
 use Rattle.lt_model.specs.Fair.{Feed}
-use Rattle.lt_model.specs.Outside.{StaysTold}
+use Rattle.lt_model.specs.Outside.{BelongsTo, StaysTold}
 use Rattle.lt_model.specs.Script.{script_lines}
 use Rattle.lt_model.specs.Run.{Counts, IsOver, Moment, counts_after, feed_after, Runs, lines_ended, run_text, state_after}
 use Rattle.lt_model.specs.Program.{IsFront, RunEnds, Told, Trace}
-use Rattle.lt_model.specs.OneStream.{only_rules, only_session}
+use Rattle.lt_model.specs.InMemory.{line_rules}
+use Rattle.lt_model.specs.Machine.{State}
 use Rattle.lt_script.specs.Lines.{kept_of}
-use Rattle.lightning_cli.specs.Sessions.{Belongs, FeedCounts, feed_counts, state_of}
-use Rattle.lightning_cli.specs.declared.session.Session.{Session}
+use Rattle.lt_pump.specs.Feeds.{FeedCounts}
+use Rattle.lt_engine.specs.State.{memory_of, state_of}
+use Rattle.lt_engine.specs.declared.replica.Replica.{Replica}
+use Rattle.lightning_cli.specs.Commands.{feed_counts}
 
 -- the counts, but for the feed's
 abbrev pub with_feed : Counts → FeedCounts → Counts
@@ -23,24 +26,24 @@ AppendsFront old new bytes = (front : List ℕ) × IsFront front bytes × Append
 abbrev pub WritesSome : Option (List ℕ) → Option (List ℕ) → List ℕ → List ℕ → Type 0
 WritesSome old new replies kept = (first : List ℕ) × Appends old new first × (replies ≡ first ++ kept)
 
--- These lines were answered from a feed and counts on: the feed and its counts now, the session, what was written and the replies
+-- These lines were answered from a feed and counts on: the feed and its counts now, the replica, what was written and the replies
 -- that are not written yet.
-pub record HasRun (f0 : Feed) (n0 : Counts) (lines : List (List ℕ)) (written : List ℕ) (f : Feed) (counted : FeedCounts) (session : Session) (replies : List ℕ) : Type 0 where
+pub record HasRun (f0 : Feed) (n0 : Counts) (s0 : State) (lines : List (List ℕ)) (written : List ℕ) (f : Feed) (counted : FeedCounts) (replica : Replica) (replies : List ℕ) : Type 0 where
   pub moments : List Moment
-  pub runs : Runs only_rules f0 n0 only_session lines moments
+  pub runs : Runs line_rules f0 n0 s0 lines moments
   pub feed : feed_after f0 moments ≡ f
   pub counts : counts_after n0 moments ≡ with_feed n0 counted
-  pub state : state_after only_session moments ≡ state_of session
-  pub has : Belongs f session
+  pub state : state_after s0 moments ≡ state_of replica
+  pub has : BelongsTo f (state_of replica) (memory_of replica)
   pub text : run_text moments ≡ written ++ replies
 
 -- The lines that some first ones of these bytes end were answered, what was written is a front of their text, and the run is over with
 -- this status.
-pub record HasRunSome (f0 : Feed) (n0 : Counts) (bytes written : List ℕ) (f : Feed) (counted : FeedCounts) (status : ℕ) : Type 0 where
+pub record HasRunSome (f0 : Feed) (n0 : Counts) (s0 : State) (bytes written : List ℕ) (f : Feed) (counted : FeedCounts) (status : ℕ) : Type 0 where
   pub part : List ℕ
   pub begins : IsFront part bytes
   pub moments : List Moment
-  pub runs : Runs only_rules f0 n0 only_session (lines_ended part) moments
+  pub runs : Runs line_rules f0 n0 s0 (lines_ended part) moments
   pub front : IsFront written (run_text moments)
   pub over : IsOver f0 n0 moments status f (with_feed n0 counted)
 
@@ -54,8 +57,8 @@ abbrev pub open_line : List ℕ → List ℕ
 open_line bytes = last_of_all (script_lines bytes)
 
 -- The lines that these bytes end were answered, and the first bytes of the open one are kept.
-pub record Stands (f0 : Feed) (n0 : Counts) (bytes written : List ℕ) (f : Feed) (counted : FeedCounts) (session : Session) (replies kept : List ℕ) : Type 0 where
-  pub run : HasRun f0 n0 (lines_ended bytes) written f counted session replies
+pub record Stands (f0 : Feed) (n0 : Counts) (s0 : State) (bytes written : List ℕ) (f : Feed) (counted : FeedCounts) (replica : Replica) (replies kept : List ℕ) : Type 0 where
+  pub run : HasRun f0 n0 s0 (lines_ended bytes) written f counted replica replies
   pub line : kept ≡ kept_of (open_line bytes)
 
 -- what the objects tell, and the counts of the feed, the sink and the script
@@ -74,7 +77,7 @@ pub record SameDisk (n m : Counts) : Type 0 where
   pub clock : m.clock ≡ n.clock
 
 -- A run that goes on: of the script so many bytes were taken.
-pub record IsServing (old now : Told) (count : ℕ) (session : Session) (replies kept : List ℕ) : Type 0 where
+pub record IsServing (old now : Told) (s0 : State) (count : ℕ) (replica : Replica) (replies kept : List ℕ) : Type 0 where
   pub bytes : List ℕ
   pub written : List ℕ
   pub number : length bytes ≡ count
@@ -82,14 +85,14 @@ pub record IsServing (old now : Told) (count : ℕ) (session : Session) (replies
   pub wrote : now.written ≡ old.written ++ written
   pub out : now.counts.out ≡ old.counts.out
   pub script : now.counts.script ≡ old.counts.script
-  pub stands : Stands old.feed old.counts bytes written now.feed (feed_counts now.counts) session replies kept
+  pub stands : Stands old.feed old.counts s0 bytes written now.feed (feed_counts now.counts) replica replies kept
 
 -- A run that is over, with this status.
-pub record Served (old new : Told) (status : ℕ) : Type 0 where
+pub record Served (old new : Told) (s0 : State) (status : ℕ) : Type 0 where
   pub trace : Trace
   pub took : old.script ≡ trace.taken ++ new.script
   pub wrote : new.written ≡ old.written ++ trace.written
-  pub ends : RunEnds only_rules old.feed old.counts new.counts only_session old.script trace status
+  pub ends : RunEnds line_rules old.feed old.counts new.counts s0 old.script trace status
   pub over : IsOver old.feed old.counts trace.moments status new.feed new.counts
 
 -- what some calls leave of an object that tells bytes: it tells on, and its count of faults did not fall

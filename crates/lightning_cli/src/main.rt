@@ -1,11 +1,12 @@
-//! A read replica that follows one stream of a change log and answers scans at a timestamp.
+//! A read replica that follows the streams of a change log and answers scans at a timestamp.
 #![tactic(auto)]
 
+mod command;
 mod output;
 mod program;
+mod rows;
 mod serve;
 mod server;
-mod session;
 #[cfg(test)]
 mod tests;
 

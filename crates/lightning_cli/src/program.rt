@@ -1,24 +1,23 @@
 //! The program's top call: what it does by its words, and the status that it ends with.
 
-ghost use Rattle.std.specs.Prelude.{IfSome, ◌≡◌, ◌≢◌, ◌<◌, ◌≤◌, ◌⊎◌, false, length, map, string_bytes, true};
-ghost use Rattle.lt_model.specs.Run.{max_script};
+ghost use Rattle.std.specs.Prelude.{IfOk, IfSome, None, ℕ, ◌≡◌, ◌≢◌, ◌<◌, ◌≤◌, ◌⊎◌, false, length, map, string_bytes, true};
+ghost use Rattle.lt_model.specs.Run.{IsMismatch, max_script, start_mismatch, start_text};
 ghost use Rattle.lt_model.specs.Disk.{Rose};
-ghost use Rattle.lt_model.specs.OneStream.{Did, IsOneStream, is_run, is_status};
+ghost use Rattle.lt_model.specs.InMemory.{Did, is_run, is_status};
 ghost use Rattle.lt_model.specs.Outside.{FailsAt, FeedGrows, StaysTold};
 ghost use Rattle.lt_model.specs.Program.{Tells, Told, counts_of};
 
 use crate::output::finish;
 use crate::serve::serve;
-use crate::session::{AttachRefusal, Session};
+use lt_core::Memory;
 use lt_disk::Disk;
+use lt_engine::{Replica, StartRefusal};
 use lt_io::{Feed, Sink, Source};
 use std::alloc::Global;
 
 const USAGE: &[u8] = b"usage: lightning init LIMIT | run | gen N\n";
 
 const FEED_FAULT: &[u8] = b"stopped 7 FeedFault\n";
-
-const FEED_MISMATCH: &[u8] = b"stopped 8 FeedMismatch 0\n";
 
 /// Runs the program by its words, those behind its name, and gives its exit status: 0, 2, 3, 4, 7, 8, 9 or 10.
 pub fn run<D: Disk, F: Feed, S: Source, K: Sink>(
@@ -42,8 +41,7 @@ pub fn run<D: Disk, F: Feed, S: Source, K: Sink>(
     ensures script_fault { result ≡ 3 → Rose (S.faults script.old) (S.faults script.new) }
     ensures out_fault { result ≡ 4 → Rose (K.faults out.old) (K.faults out.new) }
     ensures feed_fault { result ≡ 7 → Rose (F.faults feed.old) (F.faults feed.new) }
-    ensures mismatch { result ≡ 8 → (F.faults feed.new ≡ F.faults feed.old) × IfSome (F.told feed.new) (λ f. IsOneStream f → ⊥) }
-    ensures memory { result ≡ 10 → IfSome (F.told feed.new) IsOneStream }
+    ensures mismatch { result ≡ 8 → (F.faults feed.new ≡ F.faults feed.old) × IfSome (F.told feed.new) (λ f. (n : ℕ) × IsMismatch f None n) }
     ensures too_long { result ≡ 9 → IfSome (S.left script.old) (λ s. max_script < length s) }
 
     // Of objects that tell their bytes and had not failed before: either the script did not fail, or nothing was read behind its fault;
@@ -62,16 +60,25 @@ pub fn run<D: Disk, F: Feed, S: Source, K: Sink>(
     ensures later { (F.faults feed.old ≤ F.faults feed.new) × (F.calls feed.old ≤ F.calls feed.new) × (S.faults script.old ≤ S.faults script.new) × (K.faults out.old ≤ K.faults out.new) }
     ensures told { StaysTold (F.told feed.old) (F.told feed.new) × StaysTold (S.left script.old) (S.left script.new) × StaysTold (K.held out.old) (K.held out.new) }
 {
-    let _ = disk;
     if !asks_run(words) {
         return finish(out, USAGE, 2);
     }
-    match Session::attach(alloc, feed) {
-        Ok(session) => serve(alloc, session, feed, script, out),
-        Err(AttachRefusal::Mismatch) => finish(out, FEED_MISMATCH, 8),
-        Err(AttachRefusal::Feed) => finish(out, FEED_FAULT, 7),
-        Err(AttachRefusal::Memory) => 10,
+    match Replica::start(alloc, disk, feed) {
+        Ok(replica) => serve(alloc, replica, disk, feed, script, out),
+        Err(StartRefusal::Mismatch { stream }) => match mismatch_line(alloc, stream) {
+            Ok(line) => finish(out, line.as_bytes(), 8),
+            Err(Memory) => 10,
+        },
+        Err(StartRefusal::Feed) => finish(out, FEED_FAULT, 7),
+        Err(StartRefusal::Memory) => 10,
     }
+}
+
+/// The line that says which stream does not fit.
+fn mismatch_line(alloc: Global, stream: u32) -> Result<String, Memory>
+    ensures { IfOk result (λ line. string_bytes line ≡ start_text (start_mismatch stream)) }
+{
+    Ok(format!(in alloc; "stopped 8 FeedMismatch {stream}\n")?)
 }
 
 /// Whether the words are the one that runs a script.

@@ -3,21 +3,25 @@
 //! Each byte is looked at once. Of a line no more is kept than tells whether it is too long, and of the replies no more than 64 KiB and one
 //! line's answer.
 
-ghost use Rattle.std.specs.Prelude.{◌≡◌, ◌<◌, ◌≤◌, ◌++◌, ◌∷◌, [], ℕ, List, Some, IsErrOf, OnOk, OnErr};
+ghost use Rattle.std.specs.Prelude.{◌≡◌, ◌≤◌, ◌++◌, ◌∷◌, [], ℕ, List, Some, IsErrOf, OnOk, OnErr, length};
 ghost use Rattle.std.specs.Io.KnownBytes.{Appends};
 ghost use Rattle.lt_model.specs.Disk.{HasCause, Rose};
 ghost use Rattle.lt_model.specs.Outside.{FailsAt, KeepsFirstFault, StaysTold};
 ghost use Rattle.lt_model.specs.Fair.{Feed as Streams};
+ghost use Rattle.lt_model.specs.Machine.{State};
 ghost use Rattle.lt_model.specs.Run.{Counts};
+ghost use Rattle.lt_engine.specs.State.{state_of};
+ghost use Rattle.lt_pump.specs.Feeds.{FeedGoes};
 ghost use Rattle.lightning_cli.specs.Serving.{AppendsFront, Goes, HasRun, Stands, WritesSome};
 ghost use Rattle.lt_script.specs.Lines.{kept_of};
 ghost use Rattle.lightning_cli.specs.Turns.{TakesPiece, take_status};
 ghost use Rattle.lightning_cli.specs.declared.server.TakeFault.TheVariants as faults;
-ghost use Rattle.lightning_cli.specs.Sessions.{FeedGoes};
 
+use crate::command::answer;
 use crate::output::put;
-use crate::session::Session;
 use lt_core::Memory;
+use lt_disk::Disk;
+use lt_engine::Replica;
 use lt_io::{Feed, Sink, WriteFault};
 use lt_script::{Line, MAX_LINE, read_line};
 use std::alloc::Global;
@@ -65,9 +69,9 @@ impl From<WriteFault> for TakeFault {
 }
 
 /// A run of a script.
-#[derive(Debug, Drop)]
+#[derive(Drop)]
 pub struct Server {
-    session: Session,
+    replica: Replica,
     /// The first bytes of the line that is open.
     line: Vec<u8>,
     /// What was answered and is not written yet.
@@ -75,13 +79,13 @@ pub struct Server {
 }
 
 impl Server {
-    pub fn new(alloc: Global, session: Session) -> Server
-        ensures session { result.session ≡ session }
+    pub fn new(alloc: Global, replica: Replica) -> Server
+        ensures replica { result.replica ≡ replica }
         ensures line { result.line.items ≡ [] }
         ensures replies { result.replies.items ≡ [] }
     {
         Server {
-            session,
+            replica,
             line: Vec::new(alloc),
             replies: Vec::new(alloc),
         }
@@ -95,26 +99,29 @@ impl Server {
     }
 
     /// Takes further bytes of the script, answers the lines that they end, and writes the replies. An `Err` is the end of the run.
-    pub fn take<F: Feed, K: Sink>(
+    pub fn take<D: Disk, F: Feed, K: Sink>(
         &mut self,
         alloc: Global,
+        disk: &mut D,
         feed: &mut F,
         out: &mut K,
         bytes: &[u8],
     ) -> Result<(), TakeFault>
-        requires { 0 < F.known feed.old }
-        ensures taken { (f g f0 : Streams) (n0 : Counts) (before written : List ℕ) → F.told feed.old ≡ Some f → F.told feed.new ≡ Some g
-            → Stands f0 n0 before written f (F.faults feed.old, F.calls feed.old) self.old.session self.old.replies.items self.old.line.items
-            → TakesPiece f0 n0 (before ++ bytes.now) written g (F.faults feed.new, F.calls feed.new) (K.held out.old) (K.held out.new) self.new result }
+        requires known { length (state_of self.old.replica).streams ≤ F.known feed.old }
+        ensures taken { (f g f0 : Streams) (n0 : Counts) (s0 : State) (before written : List ℕ) → F.told feed.old ≡ Some f → F.told feed.new ≡ Some g
+            → Stands f0 n0 s0 before written f (F.faults feed.old, F.calls feed.old) self.old.replica self.old.replies.items self.old.line.items
+            → TakesPiece f0 n0 s0 (before ++ bytes.now) written g (F.faults feed.new, F.calls feed.new) (K.held out.old) (K.held out.new) self.new result }
         ensures written { OnOk result (self.new.replies.items ≡ []) }
         ensures kept { OnOk result ((K.faults out.new ≡ K.faults out.old) × (K.failed_at out.new ≡ K.failed_at out.old)) }
         ensures memory { IsErrOf result TakeFault.Memory → (K.faults out.new ≡ K.faults out.old) × (K.failed_at out.new ≡ K.failed_at out.old) }
         ensures sink { IsErrOf result TakeFault.Sink → Rose (K.faults out.old) (K.faults out.new) × FailsAt (K.held out.new) (K.failed_at out.old) (K.failed_at out.new) }
+        ensures known { length (state_of self.new.replica).streams ≤ F.known feed.new }
+        ensures disk { disk.new ≡ disk.old }
         ensures feed { FeedGoes (F.told feed.old) (F.told feed.new) (F.known feed.old) (F.known feed.new) (F.faults feed.old, F.calls feed.old) (F.faults feed.new, F.calls feed.new) }
         ensures out { Goes (K.held out.old) (K.held out.new) (K.faults out.old) (K.faults out.new) }
     {
         for byte in bytes {
-            self.take_byte(alloc, feed, *byte)?;
+            self.take_byte(alloc, disk, feed, *byte)?;
             self.flush_full(out)?;
         }
         self.flush(out)?;
@@ -125,7 +132,7 @@ impl Server {
     fn flush_full<K: Sink>(&mut self, out: &mut K) -> Result<(), WriteFault>
         ensures some { OnOk result (WritesSome (K.held out.old) (K.held out.new) self.old.replies.items self.new.replies.items) }
         ensures front { OnErr result (AppendsFront (K.held out.old) (K.held out.new) self.old.replies.items) }
-        ensures rest { (self.new.session ≡ self.old.session) × (self.new.line.items ≡ self.old.line.items) }
+        ensures rest { (self.new.replica ≡ self.old.replica) × (self.new.line.items ≡ self.old.line.items) }
         ensures stays { StaysTold (K.held out.old) (K.held out.new) }
         ensures cause { HasCause (K.faults out.old) (K.faults out.new) result }
         ensures first_fault { KeepsFirstFault (K.held out.new) (K.failed_at out.old) (K.failed_at out.new) result }
@@ -140,7 +147,7 @@ impl Server {
     fn flush<K: Sink>(&mut self, out: &mut K) -> Result<(), WriteFault>
         ensures all { OnOk result (Appends (K.held out.old) (K.held out.new) self.old.replies.items × (self.new.replies.items ≡ [])) }
         ensures front { OnErr result (AppendsFront (K.held out.old) (K.held out.new) self.old.replies.items) }
-        ensures rest { (self.new.session ≡ self.old.session) × (self.new.line.items ≡ self.old.line.items) }
+        ensures rest { (self.new.replica ≡ self.old.replica) × (self.new.line.items ≡ self.old.line.items) }
         ensures stays { StaysTold (K.held out.old) (K.held out.new) }
         ensures cause { HasCause (K.faults out.old) (K.faults out.new) result }
         ensures first_fault { KeepsFirstFault (K.held out.new) (K.failed_at out.old) (K.failed_at out.new) result }
@@ -151,15 +158,23 @@ impl Server {
     }
 
     /// Takes one byte.
-    fn take_byte<F: Feed>(&mut self, alloc: Global, feed: &mut F, byte: u8) -> Result<(), Memory>
-        requires { 0 < F.known feed.old }
-        ensures ok { (f g f0 : Streams) (n0 : Counts) (before written : List ℕ) → F.told feed.old ≡ Some f → F.told feed.new ≡ Some g
-            → Stands f0 n0 before written f (F.faults feed.old, F.calls feed.old) self.old.session self.old.replies.items self.old.line.items
-            → OnOk result (Stands f0 n0 (before ++ byte ∷ []) written g (F.faults feed.new, F.calls feed.new) self.new.session self.new.replies.items self.new.line.items) }
+    fn take_byte<D: Disk, F: Feed>(
+        &mut self,
+        alloc: Global,
+        disk: &mut D,
+        feed: &mut F,
+        byte: u8,
+    ) -> Result<(), Memory>
+        requires known { length (state_of self.old.replica).streams ≤ F.known feed.old }
+        ensures ok { (f g f0 : Streams) (n0 : Counts) (s0 : State) (before written : List ℕ) → F.told feed.old ≡ Some f → F.told feed.new ≡ Some g
+            → Stands f0 n0 s0 before written f (F.faults feed.old, F.calls feed.old) self.old.replica self.old.replies.items self.old.line.items
+            → OnOk result (Stands f0 n0 s0 (before ++ byte ∷ []) written g (F.faults feed.new, F.calls feed.new) self.new.replica self.new.replies.items self.new.line.items) }
+        ensures known { length (state_of self.new.replica).streams ≤ F.known feed.new }
+        ensures disk { disk.new ≡ disk.old }
         ensures feed { FeedGoes (F.told feed.old) (F.told feed.new) (F.known feed.old) (F.known feed.new) (F.faults feed.old, F.calls feed.old) (F.faults feed.new, F.calls feed.new) }
     {
         if byte == LINE_FEED {
-            self.answer(alloc, feed)?;
+            self.answer(alloc, disk, feed)?;
             self.line.clear();
             return Ok(());
         }
@@ -170,12 +185,19 @@ impl Server {
     }
 
     /// Answers the open line.
-    pub fn answer<F: Feed>(&mut self, alloc: Global, feed: &mut F) -> Result<(), Memory>
-        requires { 0 < F.known feed.old }
-        ensures ok { (f g f0 : Streams) (n0 : Counts) (lines : List (List ℕ)) (written line : List ℕ) → F.told feed.old ≡ Some f → F.told feed.new ≡ Some g → self.old.line.items ≡ kept_of line
-            → HasRun f0 n0 lines written f (F.faults feed.old, F.calls feed.old) self.old.session self.old.replies.items
-            → OnOk result (HasRun f0 n0 (lines ++ line ∷ []) written g (F.faults feed.new, F.calls feed.new) self.new.session self.new.replies.items) }
+    pub fn answer<D: Disk, F: Feed>(
+        &mut self,
+        alloc: Global,
+        disk: &mut D,
+        feed: &mut F,
+    ) -> Result<(), Memory>
+        requires known { length (state_of self.old.replica).streams ≤ F.known feed.old }
+        ensures ok { (f g f0 : Streams) (n0 : Counts) (s0 : State) (lines : List (List ℕ)) (written line : List ℕ) → F.told feed.old ≡ Some f → F.told feed.new ≡ Some g → self.old.line.items ≡ kept_of line
+            → HasRun f0 n0 s0 lines written f (F.faults feed.old, F.calls feed.old) self.old.replica self.old.replies.items
+            → OnOk result (HasRun f0 n0 s0 (lines ++ line ∷ []) written g (F.faults feed.new, F.calls feed.new) self.new.replica self.new.replies.items) }
         ensures line { self.new.line.items ≡ self.old.line.items }
+        ensures known { length (state_of self.new.replica).streams ≤ F.known feed.new }
+        ensures disk { disk.new ≡ disk.old }
         ensures feed { FeedGoes (F.told feed.old) (F.told feed.new) (F.known feed.old) (F.known feed.new) (F.faults feed.old, F.calls feed.old) (F.faults feed.new, F.calls feed.new) }
     {
         match read_line(alloc, self.line.as_slice())? {
@@ -185,7 +207,7 @@ impl Server {
                 Ok(())
             }
             Line::Command(command) => {
-                let text = self.session.answer(alloc, command, feed)?;
+                let text = answer(alloc, &mut self.replica, &command, disk, feed)?;
                 self.replies.extend_from_slice(text.as_slice())?;
                 Ok(())
             }

@@ -1,8 +1,10 @@
 //! Whole runs over objects in memory: worked replies, and each call of an object failing in turn.
 
+mod streams;
 mod worked;
 
 use crate::program::run;
+use crate::tests::streams::STREAM_ROWS;
 use crate::tests::worked::ROWS;
 use lt_core::{Blob, List};
 use lt_disk::MemDisk;
@@ -162,7 +164,7 @@ fn worked_runs(rt: HostRuntime) -> Result<(), Fail> {
             &[LOG],
             b"\n# a comment\nschema {\"table\":\"t\",\"number\":1,\"version\":1,\"key\":[[\"id\",\"int64\"]],\"columns\":[{\"number\":1,\"name\":\"a\",\"kind\":\"int64\"},{\"number\":2,\"name\":\"b\",\"kind\":\"text\"}]}\npump 1 1\nscan t 1 07\npump 0 1",
             0,
-            b"ok schema t 1\nrefused E1 BadLine\nrefused E1 BadLine\nok pump 0 records 1 offset 71 checkpoint 0 stop Count\n",
+            b"ok schema t 1\nrefused E7 NoStream 1\nrefused E1 BadLine\nok pump 0 records 1 offset 71 checkpoint 0 stop Count\n",
         ),
         (
             run,
@@ -195,6 +197,22 @@ fn worked_tables(rt: HostRuntime) -> Result<(), Fail> {
             script,
         };
         assert!(rt; ends_so(rt, &given, [&[], &[], &[]], 0, text)?, "row {row}");
+    }
+    Ok(())
+}
+
+#[test]
+fn worked_streams(rt: HostRuntime) -> Result<(), Fail> {
+    for (row, (streams, script, status, text)) in STREAM_ROWS.into_iter().enumerate() {
+        let given = Given {
+            words: &["run"],
+            streams,
+            script,
+        };
+        assert!(rt;
+            ends_so(rt, &given, [&[], &[], &[]], status, text)?,
+            "row {row}"
+        );
     }
     Ok(())
 }

@@ -1,3 +1,4 @@
 pub mod LineLaws
+pub mod LiteralLaws
 pub mod Unanswered
 pub mod WordLaws

@@ -1,18 +1,21 @@
--- Script lines: what is read of the four commands that are answered, and of any other line.
-use Rattle.std.proofs.Common.{◌≡◌, ℕ, ◌+◌, ◌<◌, ◌≤◌, Bool, true, false, List, [], ◌∷◌, ◌++◌, length, refl, sym, ap, ◌∙◌, subst, arith, ltb-true, eq-eqb, eqb-true, le-ltb, ltb-false, lt-ltb, ne_eqb, take_all}
-use Rattle.std.specs.Prelude.{None, Option, Some, codes, cond, if◌then◌else◌, nat_le, nat_lt, option_and_then, option_map, slice_get, ◌&&◌, ◌==◌, ◌||◌}
+-- Script lines: what is read of the commands that are answered, and of any other line.
+use Rattle.std.proofs.Common.{◌≡◌, ℕ, ◌+◌, ◌<◌, ◌≤◌, Bool, true, false, List, [], ◌∷◌, ◌++◌, length, refl, sym, ap, ◌∙◌, subst, arith, ltb-true, eq-eqb, le-ltb, ltb-false, lt-ltb, ne_eqb, take_all}
+use Rattle.std.specs.Prelude.{None, Option, Some, codes, cond, nat_le, nat_lt, option_and_then, option_map, slice_get, ◌&&◌, ◌==◌, ◌||◌}
 use Rattle.std.proofs.lemmas.List.{length-take-le}
 use Rattle.std.proofs.lemmas.Bool.{lt-leb}
 use Rattle.std.specs.Option.{option_map_or}
 use Rattle.std.specs.Str.{is_utf8}
+use Rattle.serde_json.specs.Read.{read}
+use Rattle.serde_json.proofs.OnLiterals.{serde_json_on_literals}
 use Rattle.lt_model.specs.Schema.{when}
-use Rattle.lt_model.specs.Script.{Command, bad_line, behind_words, command_in, command_of_words, count_word, do_pump, do_retire, do_scan, do_schema, first_byte, large_word, line_of, max_line, options_in, plain_query, scan_words, skipped, small_word, spells_command, table_word, two_words, words}
-use Rattle.lt_model.specs.OneStream.{asks_all, is_answered, line_read, only_answered}
+use Rattle.lt_model.specs.Query.{Literal}
+use Rattle.lt_model.specs.Script.{Command, bad_line, behind_words, command_in, command_of_words, count_word, do_pump, do_retire, do_scan, do_schema, do_split, do_status, first_byte, large_word, line_of, literals_in, max_line, no_words, options_in, plain_query, scan_words, skipped, small_word, spells_command, split_words, table_word, two_words, words}
+use Rattle.lt_model.specs.InMemory.{asks_all, is_answered, line_read, only_answered}
 use Rattle.lt_script.specs.Lines.{IsParted, NoSpace, answered, command_read, kept_of}
-use Rattle.lt_script.proofs.WordLaws.{IsLast, IsOneWord, behind_all, count_one, large_one, last_word, more, one, one_piece, parted_words, small_one}
+use Rattle.lt_script.proofs.WordLaws.{IsLast, IsOneWord, behind_all, behind_parted, count_one, large_one, last_word, more, one, one_piece, parted_longer, parted_words, small_one, some_pieces}
 use Rattle.lt_script.proofs.Unanswered.{Unanswered, if_unanswered, map_unanswered, no_answer, none_unanswered, other_unanswered, then_unanswered}
 
--- ---- the four forms
+-- ---- a schema
 
 pub schema_read : (rest : List ℕ) → command_read (codes "schema " ++ rest) ≡ option_map do_schema (when (nat_lt 0 (length rest)) rest)
 schema_read rest = by (nat_lt 0 (length rest))
@@ -20,6 +23,8 @@ schema_read rest = by (nat_lt 0 (length rest))
     by : (b : Bool) → answered (codes "schema " ++ rest) (option_map do_schema (option_and_then (behind_words 0) (cond b (Some rest) None))) ≡ option_map do_schema (cond b (Some rest) None)
     by true = refl
     by false = refl
+
+-- ---- two words, and commands of two parts
 
 -- two words, of which the second is the last
 two_last : {A B : Type 0} (make : A → B → Command) (first : List ℕ → Option A) (second : List ℕ → Option B) → IsOneWord second → (v w : List ℕ) → two_words make first second (v ∷ words w) ≡ option_and_then (λ a. option_map (make a) (second w)) (first v)
@@ -33,74 +38,92 @@ two_last {A} {B} make first second h v w = by (last_word second h w)
     by (one e) = ap (λ ws. two_words make first second (v ∷ ws)) e
     by (more p q ps e n) = ap (λ ws. two_words make first second (v ∷ ws)) e ∙ nothing (first v) (second w) n
 
-retire_answered : (line : List ℕ) (t : Option (List ℕ)) (v : Option ℕ) → answered line (option_and_then (λ t. option_map (do_retire t) v) t) ≡ option_and_then (λ t. option_map (do_retire t) v) t
-retire_answered line None v = refl
-retire_answered line (Some t) None = refl
-retire_answered line (Some t) (Some v) = refl
+-- the command of two parts
+abbrev pub pair : {A B : Type 0} → (A → B → Command) → Option A → Option B → Option Command
+pair make a b = option_and_then (λ a. option_map (make a) b) a
 
-pub retire_read : (rest table version : List ℕ) → IsParted rest table version → command_read (codes "retire " ++ rest) ≡ option_and_then (λ t. option_map (do_retire t) (small_word version)) (table_word table)
-retire_read rest table version p =
-    ap (λ ws. answered (codes "retire " ++ rest) (two_words do_retire table_word small_word ws)) (parted_words rest table version p)
-    ∙ ap (answered (codes "retire " ++ rest)) (two_last do_retire table_word small_word small_one table version) ∙ retire_answered (codes "retire " ++ rest) (table_word table) (small_word version)
+pub no_first : {A B : Type 0} (make : A → B → Command) (a : Option A) (b : Option B) → None ≡ a → None ≡ pair make a b
+no_first make a b e = ap (option_and_then (λ a. option_map (make a) b)) e
 
-no_retire : (t : Option (List ℕ)) → None ≡ option_and_then (λ t. option_map (do_retire t) None) t
-no_retire None = refl
-no_retire (Some t) = refl
+pub no_second : {A B : Type 0} (make : A → B → Command) (a : Option A) (b : Option B) → None ≡ b → None ≡ pair make a b
+no_second make None b e = refl
+no_second make (Some a) b e = ap (option_map (make a)) e
 
-pub retire_no_version : (rest table version : List ℕ) → IsParted rest table version → None ≡ small_word version → None ≡ command_read (codes "retire " ++ rest)
-retire_no_version rest table version p e = no_retire (table_word table) ∙ ap (λ v. option_and_then (λ t. option_map (do_retire t) v) (table_word table)) e ∙ sym (retire_read rest table version p)
+pub pair_is : {A B : Type 0} (make : A → B → Command) (a : Option A) (b : Option B) (x : A) (y : B) → Some x ≡ a → Some y ≡ b → Some (make x y) ≡ pair make a b
+pair_is make a b x y e f = ap (option_map (make x)) f ∙ ap (option_and_then (λ a. option_map (make a) b)) e
 
-pub retire_no_table : (rest table version : List ℕ) → IsParted rest table version → None ≡ table_word table → None ≡ command_read (codes "retire " ++ rest)
-retire_no_table rest table version p e = ap (option_and_then (λ t. option_map (do_retire t) (small_word version))) e ∙ sym (retire_read rest table version p)
+-- it is answered, whatever its parts
+pair_answered : {A B : Type 0} (line : List ℕ) (make : A → B → Command) → ((a : A) (b : B) → is_answered line (make a b) ≡ true) → (a : Option A) (b : Option B) → answered line (pair make a b) ≡ pair make a b
+pair_answered line make h None b = refl
+pair_answered line make h (Some a) None = refl
+pair_answered line make h (Some a) (Some b) = ap (λ t. when t (make a b)) (h a b)
 
-pub retire_is : (rest table version : List ℕ) → IsParted rest table version → (t : List ℕ) (v : ℕ) → Some t ≡ table_word table → Some v ≡ small_word version → Some (do_retire t v) ≡ command_read (codes "retire " ++ rest)
-retire_is rest table version p t v e f =
-    ap (option_map (do_retire t)) f ∙ ap (option_and_then (λ t. option_map (do_retire t) (small_word version))) e ∙ sym (retire_read rest table version p)
+two_read : {A B : Type 0} (line : List ℕ) (make : A → B → Command) (first : List ℕ → Option A) (second : List ℕ → Option B) → IsOneWord second → ((a : A) (b : B) → is_answered line (make a b) ≡ true)
+    → (rest v w : List ℕ) → IsParted rest v w → answered line (two_words make first second (words rest)) ≡ pair make (first v) (second w)
+two_read line make first second last always rest v w p =
+    ap (λ ws. answered line (two_words make first second ws)) (parted_words rest v w p)
+    ∙ ap (answered line) (two_last make first second last v w) ∙ pair_answered line make always (first v) (second w)
+
+pub retire_read : (rest table version : List ℕ) → IsParted rest table version → command_read (codes "retire " ++ rest) ≡ pair do_retire (table_word table) (small_word version)
+retire_read rest table version p = two_read (codes "retire " ++ rest) do_retire table_word small_word small_one (λ t v. refl) rest table version p
 
 pub retire_whole : (rest : List ℕ) → NoSpace rest → command_read (codes "retire " ++ rest) ≡ None
 retire_whole rest h = ap (λ ws. answered (codes "retire " ++ rest) (two_words do_retire table_word small_word ws)) (one_piece rest h)
 
--- only stream 0 is pumped
-abbrev pumped : Option ℕ → Option ℕ → Option Command
-pumped stream count = option_and_then (λ s. if s == 0 then option_map (do_pump 0) count else None) stream
-
-same_if : (b : Bool) (o : Option Command) → o ≡ cond b o o
-same_if true o = refl
-same_if false o = refl
-
-pump_answered : (line : List ℕ) (s k : Option ℕ) → answered line (option_and_then (λ s. option_map (do_pump s) k) s) ≡ pumped s k
-pump_answered line None k = refl
-pump_answered line (Some s) None = same_if (s == 0) None
-pump_answered line (Some s) (Some k) = by (s == 0) refl
-  where
-    by : (b : Bool) → (s == 0) ≡ b → when b (do_pump s k) ≡ cond b (Some (do_pump 0 k)) None
-    by true e = ap (λ s. Some (do_pump s k)) (eqb-true s 0 e)
-    by false e = refl
-
-pub pump_read : (rest stream count : List ℕ) → IsParted rest stream count → command_read (codes "pump " ++ rest) ≡ pumped (small_word stream) (count_word count)
-pump_read rest stream count p =
-    ap (λ ws. answered (codes "pump " ++ rest) (two_words do_pump small_word count_word ws)) (parted_words rest stream count p)
-    ∙ ap (answered (codes "pump " ++ rest)) (two_last do_pump small_word count_word count_one stream count) ∙ pump_answered (codes "pump " ++ rest) (small_word stream) (count_word count)
-
-no_pump : (s : Option ℕ) → None ≡ pumped s None
-no_pump None = refl
-no_pump (Some s) = same_if (s == 0) None
-
-pub pump_no_stream : (rest stream count : List ℕ) → IsParted rest stream count → None ≡ small_word stream → None ≡ command_read (codes "pump " ++ rest)
-pump_no_stream rest stream count p e = ap (λ s. pumped s (count_word count)) e ∙ sym (pump_read rest stream count p)
-
-pub pump_no_count : (rest stream count : List ℕ) → IsParted rest stream count → None ≡ count_word count → None ≡ command_read (codes "pump " ++ rest)
-pump_no_count rest stream count p e = no_pump (small_word stream) ∙ ap (pumped (small_word stream)) e ∙ sym (pump_read rest stream count p)
-
-pub pump_other : (rest stream count : List ℕ) → IsParted rest stream count → (s : ℕ) → Some s ≡ small_word stream → (s ≡ 0 → ⊥) → None ≡ command_read (codes "pump " ++ rest)
-pump_other rest stream count p s e h =
-    ap (λ b. cond b (option_map (do_pump 0) (count_word count)) None) (sym (ne_eqb s 0 h)) ∙ ap (λ s. pumped s (count_word count)) e ∙ sym (pump_read rest stream count p)
-
-pub pump_is : (rest stream count : List ℕ) → IsParted rest stream count → (n : ℕ) → Some 0 ≡ small_word stream → Some n ≡ count_word count → Some (do_pump 0 n) ≡ command_read (codes "pump " ++ rest)
-pump_is rest stream count p n e f = ap (option_map (do_pump 0)) f ∙ ap (λ s. pumped s (count_word count)) e ∙ sym (pump_read rest stream count p)
+pub pump_read : (rest stream count : List ℕ) → IsParted rest stream count → command_read (codes "pump " ++ rest) ≡ pair do_pump (small_word stream) (count_word count)
+pump_read rest stream count p = two_read (codes "pump " ++ rest) do_pump small_word count_word count_one (λ s n. refl) rest stream count p
 
 pub pump_whole : (rest : List ℕ) → NoSpace rest → command_read (codes "pump " ++ rest) ≡ None
 pump_whole rest h = ap (λ ws. answered (codes "pump " ++ rest) (two_words do_pump small_word count_word ws)) (one_piece rest h)
+
+-- ---- a split
+
+abbrev pub key_read : List ℕ → Option (List Literal)
+key_read text = option_and_then literals_in (read text)
+
+no_text : key_read [] ≡ None
+unfolding serde_json_on_literals
+no_text = refl
+
+-- by the text, where there is one
+abbrev split_of : Option (List ℕ) → Option (List ℕ) → Option Command
+split_of table text = option_and_then (λ t. option_and_then (λ x. option_map (do_split t) (key_read x)) text) table
+
+split_by : (table : Option (List ℕ)) (text : List ℕ) (b : Bool) → nat_lt 0 (length text) ≡ b → split_of table (when b text) ≡ pair do_split table (key_read text)
+split_by None text b e = refl
+split_by (Some t) text true e = refl
+split_by (Some t) [] false e = ap (option_map (do_split t)) (sym no_text)
+split_by (Some t) (x ∷ text) false e = absurd (omega (arith, ltb-false 0 (length (x ∷ text)) e))
+
+-- the text stands behind the second word
+text_behind : (rest table text : List ℕ) → IsParted rest table text → behind_words 2 (codes "split " ++ rest) ≡ when (nat_lt 0 (length text)) text
+text_behind rest table text p =
+    ap (λ b. option_and_then (behind_words 1) (when b rest)) (lt-ltb 0 (length rest) (parted_longer rest table text p))
+    ∙ ap (option_and_then (behind_words 0)) (behind_parted rest table text p) ∙ same (nat_lt 0 (length text))
+  where
+    same : (b : Bool) → option_and_then (behind_words 0) (when b text) ≡ when b text
+    same true = refl
+    same false = refl
+
+pub split_read : (rest table text : List ℕ) → IsParted rest table text → command_read (codes "split " ++ rest) ≡ pair do_split (table_word table) (key_read text)
+split_read rest table text p =
+    ap (λ ws. answered (codes "split " ++ rest) (split_words ws (behind_words 2 (codes "split " ++ rest)))) (parted_words rest table text p)
+    ∙ ap (λ o. answered (codes "split " ++ rest) (split_of (table_word table) o)) (text_behind rest table text p)
+    ∙ ap (answered (codes "split " ++ rest)) (split_by (table_word table) text (nat_lt 0 (length text)) refl)
+    ∙ pair_answered (codes "split " ++ rest) do_split (λ t k. refl) (table_word table) (key_read text)
+
+pub split_whole : (rest : List ℕ) → NoSpace rest → command_read (codes "split " ++ rest) ≡ None
+split_whole rest h =
+    let all : words (codes "split " ++ rest) ≡ codes "split" ∷ rest ∷ [] = ap (λ ws. codes "split" ∷ ws) (one_piece rest h) in
+    let none : behind_words 2 (codes "split " ++ rest) ≡ None = behind_all 2 (codes "split " ++ rest) (subst (λ ws. length ws ≤ 2) (sym all) (omega arith)) in
+    ap (λ ws. answered (codes "split " ++ rest) (split_words ws (behind_words 2 (codes "split " ++ rest)))) (one_piece rest h)
+    ∙ ap (λ o. answered (codes "split " ++ rest) (split_of (table_word rest) o)) none ∙ nothing (table_word rest)
+  where
+    nothing : (t : Option (List ℕ)) → answered (codes "split " ++ rest) (split_of t None) ≡ None
+    nothing None = refl
+    nothing (Some t) = refl
+
+-- ---- a scan
 
 -- a query of all rows
 abbrev scanned : Option (List ℕ) → Option ℕ → Option ℕ → Option Command
@@ -201,8 +224,8 @@ scan_two rest table behind p h =
 
 -- ---- any other line
 
-pub whole_read : (line : List ℕ) → NoSpace line → command_read line ≡ None
-whole_read line h =
+pub whole_read : (line : List ℕ) → NoSpace line → (line ≡ codes "status" → ⊥) → command_read line ≡ None
+whole_read line h status =
     let ws : words line ≡ line ∷ [] = one_piece line h in
     let none : behind_words 1 line ≡ None = behind_all 1 line (subst (λ ws. length ws ≤ 1) (sym ws) (omega arith)) in
     ap (λ ws. answered line (command_in line ws)) ws
@@ -210,17 +233,34 @@ whole_read line h =
       schema = λ e. subst (λ o. Unanswered line (option_map do_schema o)) (sym none) (none_unanswered line);
       retire = λ e. none_unanswered line;
       pump = λ e. none_unanswered line;
+      split = λ e. none_unanswered line;
       scan = λ e. none_unanswered line;
+      status = λ e. absurd (status e);
     }))
 
-pub other_read : (line first rest : List ℕ) → IsParted line first rest → (first ≡ codes "schema" → ⊥) → (first ≡ codes "retire" → ⊥) → (first ≡ codes "pump" → ⊥) → (first ≡ codes "scan" → ⊥) → command_read line ≡ None
-other_read line first rest p schema retire pump scan =
+-- a command of one word, with a word behind it
+word_behind : (line : List ℕ) (c : Command) (ws : List (List ℕ)) → 0 < length ws → Unanswered line (no_words c ws)
+word_behind line c [] some = absurd (omega (arith, some))
+word_behind line c (w ∷ ws) some = none_unanswered line
+
+-- the first word is none that has others behind it
+pub record IsUnknown (first : List ℕ) : Type 0 where
+  pub schema : first ≡ codes "schema" → ⊥
+  pub retire : first ≡ codes "retire" → ⊥
+  pub pump : first ≡ codes "pump" → ⊥
+  pub split : first ≡ codes "split" → ⊥
+  pub scan : first ≡ codes "scan" → ⊥
+
+pub other_read : (line first rest : List ℕ) → IsParted line first rest → IsUnknown first → command_read line ≡ None
+other_read line first rest p none =
     ap (λ ws. answered line (command_in line ws)) (parted_words line first rest p)
     ∙ no_answer line (command_of_words line first (words rest)) (other_unanswered line first (words rest) (record {
-      schema = λ e. absurd (schema e);
-      retire = λ e. absurd (retire e);
-      pump = λ e. absurd (pump e);
-      scan = λ e. absurd (scan e);
+      schema = λ e. absurd (none.schema e);
+      retire = λ e. absurd (none.retire e);
+      pump = λ e. absurd (none.pump e);
+      split = λ e. absurd (none.split e);
+      scan = λ e. absurd (none.scan e);
+      status = λ e. word_behind line do_status (words rest) (some_pieces rest);
     }))
 
 -- ---- lines that are not looked into

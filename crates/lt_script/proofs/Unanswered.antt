@@ -3,8 +3,8 @@ use Rattle.std.proofs.Common.{◌≡◌, ℕ, Bool, true, false, List, [], ◌�
 use Rattle.std.specs.Prelude.{None, Option, Some, codes, cond, if◌then◌else◌, option_and_then, option_map}
 use Rattle.lt_model.specs.Conversion.{same_bytes}
 use Rattle.lt_model.specs.Schema.{when}
-use Rattle.lt_model.specs.Script.{Command, Mode, behind_words, command_of_words, count_word, do_compact, do_deltas, do_flush, do_job_begin, do_job_drop, do_job_finish, do_job_step, do_page, do_pump, do_reopen, do_retain, do_retire, do_schema, do_split, do_status, job_words, large_word, mode_words, no_words, one_number, options_in, page_words, plain_query, scan_words, small_word, split_words, table_word, two_words, with_mode}
-use Rattle.lt_model.specs.OneStream.{is_answered}
+use Rattle.lt_model.specs.Script.{Command, Mode, behind_words, command_of_words, count_word, do_compact, do_deltas, do_flush, do_job_begin, do_job_drop, do_job_finish, do_job_step, do_page, do_pump, do_reopen, do_retain, do_retire, do_schema, do_status, job_words, large_word, mode_words, no_words, one_number, options_in, page_words, plain_query, scan_words, small_word, split_words, table_word, two_words, with_mode}
+use Rattle.lt_model.specs.InMemory.{is_answered}
 use Rattle.lt_script.specs.Lines.{answered}
 use Rattle.lt_laws.proofs.ConversionLemmas.{same_bytes-same}
 
@@ -52,10 +52,6 @@ job_unanswered line (w ∷ ws) =
     (if_unanswered line _ _ _ (no_unanswered line do_job_finish refl ws)
     (if_unanswered line _ _ _ (no_unanswered line do_job_drop refl ws) (none_unanswered line))))
 
-split_unanswered : (line : List ℕ) (ws : List (List ℕ)) (text : Option (List ℕ)) → Unanswered line (split_words ws text)
-split_unanswered line [] text = none_unanswered line
-split_unanswered line (t ∷ ws) text = then_unanswered line _ (λ n. then_unanswered line _ (λ x. map_unanswered line (do_split n) (λ k. refl) _) text) (table_word t)
-
 page_unanswered : (line : List ℕ) (ws : List (List ℕ)) (options : Option (List ℕ)) → Unanswered line (page_words ws options)
 page_unanswered line [] o = none_unanswered line
 page_unanswered line (a ∷ []) o = none_unanswered line
@@ -78,7 +74,9 @@ pub record IsOther (line w : List ℕ) (ws : List (List ℕ)) : Type 0 where
   pub schema : w ≡ codes "schema" → Unanswered line (option_map do_schema (behind_words 1 line))
   pub retire : w ≡ codes "retire" → Unanswered line (two_words do_retire table_word small_word ws)
   pub pump : w ≡ codes "pump" → Unanswered line (two_words do_pump small_word count_word ws)
+  pub split : w ≡ codes "split" → Unanswered line (split_words ws (behind_words 2 line))
   pub scan : w ≡ codes "scan" → Unanswered line (scan_words ws (behind_words 4 line))
+  pub status : w ≡ codes "status" → Unanswered line (no_words do_status ws)
 
 pub other_unanswered : (line w : List ℕ) (ws : List (List ℕ)) → IsOther line w ws → Unanswered line (command_of_words line w ws)
 other_unanswered line w ws other =
@@ -88,11 +86,11 @@ other_unanswered line w ws other =
     (if_unanswered line _ _ _ (one_unanswered line do_flush small_word (λ n. refl) ws)
     (if_unanswered line _ _ _ (mode_unanswered line do_compact (λ p m. refl) ws)
     (if_unanswered line _ _ _ (job_unanswered line ws)
-    (if_unanswered line _ _ _ (split_unanswered line ws (behind_words 2 line))
+    (if_not line w (codes "split") _ _ other.split
     (if_unanswered line _ _ _ (one_unanswered line do_retain large_word (λ n. refl) ws)
     (if_not line w (codes "scan") _ _ other.scan
     (if_unanswered line _ _ _ (page_unanswered line ws (behind_words 5 line))
-    (if_unanswered line _ _ _ (no_unanswered line do_status refl ws)
+    (if_not line w (codes "status") _ _ other.status
     (if_unanswered line _ _ _ (one_unanswered line do_deltas small_word (λ n. refl) ws)
     (if_unanswered line _ _ _ (no_unanswered line do_reopen refl ws)
     (none_unanswered line)))))))))))))

@@ -1,5 +1,5 @@
 -- Words: what one space parts, and the number and the table that a word names.
-use Rattle.std.proofs.Common.{◌%◌, ◌≡◌, ℕ, ◌+◌, ◌-◌, ◌<◌, ◌≤◌, ◌^◌, Bool, true, false, List, [], ◌∷◌, ◌++◌, length, get_or, refl, sym, ap, ◌∙◌, subst, arith, leb-true, eqb-true, le-leb, lt-ltb, ne_eqb}
+use Rattle.std.proofs.Common.{◌%◌, ◌≡◌, ℕ, ◌+◌, ◌-◌, ◌<◌, ◌≤◌, ◌^◌, Bool, true, false, List, [], ◌∷◌, ◌++◌, length, get_or, refl, sym, ap, ◌∙◌, subst, arith, leb-true, eqb-true, le-leb, lt-ltb, ne_eqb, length-append}
 use Rattle.std.specs.Prelude.{IfNone, IfSome, MatchOption, None, Option, Some, cond, decimal, nat_le, nat_lt, option_and_then, suc, zero, ◌==◌}
 use Rattle.std.proofs.lemmas.Bool.{and_parts}
 use Rattle.std.proofs.lemmas.Fmt.{decimal_by_steps}
@@ -45,7 +45,7 @@ spaced_with b [] = refl
 spaced_with b (l ∷ []) = refl
 spaced_with b (l ∷ m ∷ ls) = refl
 
-some_pieces : (line : List ℕ) → 0 < length (pieces 32 line)
+pub some_pieces : (line : List ℕ) → 0 < length (pieces 32 line)
 some_pieces [] = omega arith
 some_pieces (b ∷ line) = parted (b == 32) (pieces 32 line)
   where
@@ -81,6 +81,16 @@ behind_step b bs false e rest h k = same_count b (pieces 32 bs) (some_pieces bs)
     same_count : (b : ℕ) (ps : List (List ℕ)) → 0 < length ps → length (with_byte b ps) ≡ length ps
     same_count b [] n = absurd (omega (arith, n))
     same_count b (p ∷ ps) n = refl
+
+behind_space : (w rest : List ℕ) → NoSpace w → behind_word (w ++ 32 ∷ rest) ≡ when (nat_lt 0 (length rest)) rest
+behind_space [] rest h = refl
+behind_space (b ∷ w) rest h = rw h.0 (behind_space w rest h.1)
+
+pub behind_parted : (line word rest : List ℕ) → IsParted line word rest → behind_word line ≡ when (nat_lt 0 (length rest)) rest
+behind_parted line word rest p = ap behind_word p.is ∙ behind_space word rest p.one
+
+pub parted_longer : (line word rest : List ℕ) → IsParted line word rest → 0 < length line
+parted_longer line word rest p = subst (λ (l : List ℕ). 0 < length l) (sym p.is) (omega (arith, length-append word (32 ∷ rest)))
 
 -- what stands behind a word has one piece less
 behind_fewer : (line rest : List ℕ) → behind_word line ≡ Some rest → length (pieces 32 line) ≡ suc (length (pieces 32 rest))

@@ -1,19 +1,12 @@
--- What lines and commands stand for, and what is read of a line that is text.
-use Rattle.std.specs.Prelude.{List, None, Option, false, option_and_then, take, ℕ, ◌+◌, ◌++◌, ◌==◌, ◌∷◌, ◌≡◌}
+-- What lines stand for, and what is read of a line that is text.
+use Rattle.std.specs.Prelude.{List, Option, false, option_and_then, take, ℕ, ◌+◌, ◌++◌, ◌==◌, ◌∷◌, ◌≡◌}
 use Rattle.std.specs.List.{AllByRecursion}
 use Rattle.lt_model.specs.Schema.{when}
 use Rattle.lt_model.specs.Script as script
-use Rattle.lt_model.specs.OneStream.{is_answered}
-use Rattle.lt_script.specs.declared.command.Command.{Command}
-use Rattle.lt_script.specs.declared.command.Command.TheVariants as commands
+use Rattle.lt_model.specs.InMemory.{is_answered}
+use Rattle.lt_command.specs.View.{view_command}
 use Rattle.lt_script.specs.declared.line.Line.{Line}
 use Rattle.lt_script.specs.declared.line.Line.TheVariants as lines
-
-abbrev pub view_command : Command → script.Command
-view_command (commands.Schema text) = script.do_schema text
-view_command (commands.Retire table version) = script.do_retire table version
-view_command (commands.Pump count) = script.do_pump 0 count
-view_command (commands.Scan table version at) = script.do_scan (script.plain_query table version at None)
 
 abbrev pub view_line : Line → script.Line
 view_line lines.Skipped = script.skipped

@@ -1,44 +1,43 @@
 //! The commands that are answered, and their lines. Words are read from the front, so that a long text behind them is not parted.
 
 ghost use Rattle.std.specs.Prelude.{◌≡◌, ◌++◌, codes, option_map, IfOk};
-ghost use Rattle.lt_script.specs.Lines.{command_read, view_command};
+ghost use Rattle.lt_command.specs.View.{view_command};
+ghost use Rattle.lt_script.specs.Lines.{NoSpace, command_read};
 
+use crate::literals::read_literals;
 use crate::words::{first_word, large_number, small_number, table_name};
-use lt_core::{Blob, Memory, Text};
+use lt_command::{Command, Query};
+use lt_core::{Blob, Memory};
 use std::alloc::Global;
-
-/// The stream that is pumped.
-const ONLY_STREAM: u32 = 0;
 
 /// The least count of records that a pump takes at most.
 const LEAST_COUNT: u32 = 1;
-
-/// What the program is asked for.
-#[derive(Debug, Drop)]
-pub enum Command {
-    /// Add the version that a text spells.
-    Schema(Blob),
-    /// Retire a version of a table.
-    Retire { table: Text, version: u32 },
-    /// Take at most so many records of the stream.
-    Pump { count: u32 },
-    /// Print a table's rows at a timestamp, read by a version.
-    Scan { table: Text, version: u32, at: u64 },
-}
 
 /// The command that a line spells, where it is one that is answered.
 pub fn read_command(alloc: Global, line: &str) -> Result<Option<Command>, Memory>
     ensures { IfOk result (λ found. option_map view_command found ≡ command_read line.now) }
 {
     let Some((first, rest)) = first_word(line) else {
-        return Ok(None);
+        return Ok(one_word(line));
     };
     match first {
         "schema" => read_schema(alloc, rest),
         "retire" => read_retire(alloc, rest),
         "pump" => read_pump(alloc, rest),
+        "split" => read_split(alloc, rest),
         "scan" => read_scan(alloc, rest),
         _ => Ok(None),
+    }
+}
+
+/// The command of a line that is one word.
+fn one_word(word: &str) -> Option<Command>
+    requires alone { NoSpace word.now }
+    ensures { option_map view_command result ≡ command_read word.now }
+{
+    match word {
+        "status" => Some(Command::Status),
+        _ => None,
     }
 }
 
@@ -69,7 +68,7 @@ fn read_retire(alloc: Global, rest: &str) -> Result<Option<Command>, Memory>
     Ok(Some(Command::Retire { table, version }))
 }
 
-/// `pump 0 N`, by what stands behind the first word; N is not 0.
+/// `pump S N`, by what stands behind the first word; N is not 0.
 fn read_pump(alloc: Global, rest: &str) -> Result<Option<Command>, Memory>
     ensures { IfOk result (λ found. option_map view_command found ≡ command_read (codes "pump " ++ rest.now)) }
 {
@@ -82,11 +81,27 @@ fn read_pump(alloc: Global, rest: &str) -> Result<Option<Command>, Memory>
     let Some(count) = small_number(alloc, count)? else {
         return Ok(None);
     };
-    if stream == ONLY_STREAM && count >= LEAST_COUNT {
-        Ok(Some(Command::Pump { count }))
-    } else {
-        Ok(None)
+    if count < LEAST_COUNT {
+        return Ok(None);
     }
+    let count = u64::from(count);
+    Ok(Some(Command::Pump { stream, count }))
+}
+
+/// `split TABLE JSON`, by what stands behind the first word; the JSON is an array of literals.
+fn read_split(alloc: Global, rest: &str) -> Result<Option<Command>, Memory>
+    ensures { IfOk result (λ found. option_map view_command found ≡ command_read (codes "split " ++ rest.now)) }
+{
+    let Some((table, json)) = first_word(rest) else {
+        return Ok(None);
+    };
+    let Some(table) = table_name(alloc, table)? else {
+        return Ok(None);
+    };
+    let Some(key) = read_literals(alloc, json)? else {
+        return Ok(None);
+    };
+    Ok(Some(Command::Split { table, key }))
 }
 
 /// `scan TABLE V T`, by what stands behind the first word.
@@ -108,5 +123,5 @@ fn read_scan(alloc: Global, rest: &str) -> Result<Option<Command>, Memory>
     let Some(table) = table_name(alloc, table)? else {
         return Ok(None);
     };
-    Ok(Some(Command::Scan { table, version, at }))
+    Ok(Some(Command::Scan(Query { table, version, at })))
 }

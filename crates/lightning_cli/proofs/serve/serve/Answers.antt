@@ -1,6 +1,8 @@
-use Rattle.std.proofs.Common.{sym, ◌∙◌, arith, inl, inr, refl}
+use Rattle.std.proofs.Common.{sym, subst, length, ◌∙◌, ◌≤◌, arith, inl, inr, refl}
 use Rattle.lt_model.specs.Program.{Told}
-use Rattle.lightning_cli.proofs.FeedLaws.{goes_itself, goes_then, told_on}
+use Rattle.lt_engine.specs.State.{state_of}
+use Rattle.lt_pump.proofs.FeedLaws.{goes_itself, goes_then}
+use Rattle.lightning_cli.proofs.FeedLaws.{told_on}
 use Rattle.lightning_cli.proofs.OutLaws.{fails_from, gone_then, none_gone, out_goes, over_gone, out_goes_then, tells_on, told_same}
 use Rattle.lightning_cli.proofs.ServeLaws.{begins, serving_to}
 use Rattle.lightning_cli.proofs.serve.serve.Goals as goal
@@ -10,6 +12,8 @@ loop-init g c = record {
   short = omega arith;
   turns = omega arith;
   written = c.new-server.ensures.replies;
+  known = subst (λ r. length (state_of r).streams ≤ g.F.Feed.known c.args.feed.now) (sym c.new-server.ensures.replica) c.requires.known;
+  disk = refl;
   feed = goes_itself _ _ _;
   script = out_goes _ _;
   out = out_goes _ _;
@@ -18,8 +22,8 @@ loop-init g c = record {
   unstopped = (refl, refl);
   serving = λ old now seen seen' has.
       let told = told_same _ old.feed now.feed seen.feed seen'.feed in
-      serving_to (sym c.new-server.ensures.session) (sym c.new-server.ensures.replies) (sym c.new-server.ensures.line)
-      (begins old now c.args.session c.requires.fresh told (told_same _ old.script now.script seen.script seen'.script) (told_same _ old.written now.written seen.written seen'.written) (sym seen'.counted ∙ seen.counted) (sym seen'.out ∙ seen.out) (sym seen'.read ∙ seen.read) has);
+      serving_to (sym c.new-server.ensures.replica) (sym c.new-server.ensures.replies) (sym c.new-server.ensures.line)
+      (begins old now c.args.replica told (told_same _ old.script now.script seen.script seen'.script) (told_same _ old.written now.written seen.written seen'.written) (sym seen'.counted ∙ seen.counted) (sym seen'.out ∙ seen.out) (sym seen'.read ∙ seen.read) has);
 }
 
 pub loop-preserved : goal.loop-preserved
@@ -30,6 +34,8 @@ loop-preserved g c =
       short = e.more.1;
       turns = omega (arith, i.turns, e.more.0);
       written = e.more.2;
+      known = e.known;
+      disk = c.take_piece.ensures.disk ∙ i.disk;
       feed = goes_then _ _ _ _ _ _ _ _ _ i.feed c.take_piece.ensures.feed;
       script = out_goes_then _ _ _ _ _ _ i.script c.take_piece.ensures.script;
       out = out_goes_then _ _ _ _ _ _ i.out c.take_piece.ensures.out;
@@ -41,7 +47,7 @@ loop-preserved g c =
           let x = tells_on _ _ old.script i.script.stays seen.script in
           let w = tells_on _ _ old.written i.out.stays seen.written in
           let mid : Told = record { feed = f.0; script = x.0; written = w.0; counts = record old.counts { feed = g.F.Feed.faults c.loop.feed; calls = g.F.Feed.calls c.loop.feed; script = g.S.Source.faults c.loop.script; out = g.K.Sink.faults c.loop.out } } in
-          serving_to refl (sym e.more.2) refl (e.goes_on old mid now (record { feed = f.1; script = x.1; written = w.1; counted = refl; out = refl; read = refl }) seen' (i.serving old mid seen (record { feed = f.1; script = x.1; written = w.1; counted = refl; out = refl; read = refl }) has));
+          serving_to refl (sym e.more.2) refl (e.goes_on old mid now (state_of c.args.replica) (record { feed = f.1; script = x.1; written = w.1; counted = refl; out = refl; read = refl }) seen' (i.serving old mid seen (record { feed = f.1; script = x.1; written = w.1; counted = refl; out = refl; read = refl }) has));
     }
 
 pub returns-in-Over-clause-feed : goal.returns-in-Over-clause-feed
@@ -54,7 +60,7 @@ returns-in-Over-clause-served g c old now seen seen' disk has =
     let x = tells_on _ _ old.script i.script.stays seen.script in
     let w = tells_on _ _ old.written i.out.stays seen.written in
     let mid : Told = record { feed = f.0; script = x.0; written = w.0; counts = record old.counts { feed = g.F.Feed.faults c.loop.feed; calls = g.F.Feed.calls c.loop.feed; script = g.S.Source.faults c.loop.script; out = g.K.Sink.faults c.loop.out } } in
-    c.in-Over.ensures.served old mid now (record { feed = f.1; script = x.1; written = w.1; counted = refl; out = refl; read = refl }) seen' disk (i.serving old mid seen (record { feed = f.1; script = x.1; written = w.1; counted = refl; out = refl; read = refl }) has)
+    c.in-Over.ensures.served old mid now (state_of c.args.replica) (record { feed = f.1; script = x.1; written = w.1; counted = refl; out = refl; read = refl }) seen' disk (i.serving old mid seen (record { feed = f.1; script = x.1; written = w.1; counted = refl; out = refl; read = refl }) has)
 
 pub returns-in-Over-clause-script_stops : goal.returns-in-Over-clause-script_stops
 returns-in-Over-clause-script_stops g c = elim c.in-Over.ensures.script_stops [

@@ -1,7 +1,8 @@
 use Rattle.std.proofs.Common.{sym, ap, ◌∙◌}
 use Rattle.std.specs.Prelude.{option_map}
 use Rattle.lt_core.proofs.Utf8.{utf8_false, utf8_true}
-use Rattle.lt_script.specs.Lines.{command_read, view_command}
+use Rattle.lt_command.specs.View.{view_command}
+use Rattle.lt_script.specs.Lines.{command_read}
 use Rattle.lt_script.proofs.LineLaws.{comment_line, empty_line, long_line, no_text_line, plain_line}
 use Rattle.lt_script.proofs.line.read_line.Goals as goal
 

@@ -1,0 +1,134 @@
+//! Answers a command: the text of its rows and of its reply. It takes the time of the replica's step, and time by the length of the text.
+
+ghost use Rattle.std.specs.Prelude.{◌≡◌, ◌≤◌, ◌++◌, None, Some, IfErr, IfOk, IsTrue, length, option_map};
+ghost use Rattle.lt_command.specs.View.{view_command};
+ghost use Rattle.lt_engine.specs.State.{memory_of, state_of};
+ghost use Rattle.lt_engine.specs.Steps.{answer_of};
+ghost use Rattle.lt_model.specs.Fair.{Feed as Streams};
+ghost use Rattle.lt_model.specs.Machine.{cat_of};
+ghost use Rattle.lt_model.specs.Outside.{BelongsTo, is_command};
+ghost use Rattle.lt_model.specs.Run.{result_text};
+ghost use Rattle.lt_pump.specs.Feeds.{FeedGoes};
+ghost use Rattle.lt_reply.specs.View.{IsSpoken};
+ghost use Rattle.lt_schema.specs.View.{view_version};
+ghost use Rattle.lightning_cli.specs.Commands.{Answered, version_read};
+
+use crate::rows::{NoRows, RowTexts};
+use lt_command::Command;
+use lt_core::{Blob, Memory};
+use lt_disk::Disk;
+use lt_engine::Replica;
+use lt_io::Feed;
+use lt_reply::{Refusal, Reply, refusal_text, reply_text};
+use lt_schema::{Catalogue, SchemaVersion};
+use std::alloc::Global;
+
+/// Answers a command: the text of its rows and of its reply. An `Err` finds no memory for the text; the replica may have gone on.
+pub fn answer<D: Disk, F: Feed>(
+    alloc: Global,
+    replica: &mut Replica,
+    command: &Command,
+    disk: &mut D,
+    feed: &mut F,
+) -> Result<Blob, Memory>
+    requires streams { length (state_of replica.old).streams ≤ F.known feed.old }
+    requires command { IsTrue (is_command (view_command command.now)) }
+    ensures belongs { (f g : Streams) → F.told feed.old ≡ Some f → F.told feed.new ≡ Some g → BelongsTo f (state_of replica.old) (memory_of replica.old) → BelongsTo g (state_of replica.new) (memory_of replica.new) }
+    ensures answered { (f g : Streams) → F.told feed.old ≡ Some f → F.told feed.new ≡ Some g → BelongsTo f (state_of replica.old) (memory_of replica.old)
+        → IfOk result (Answered (F.faults feed.old, F.calls feed.old) (F.faults feed.new, F.calls feed.new) (state_of replica.old) (state_of replica.new) (view_command command.now) g) }
+    ensures known { length (state_of replica.new).streams ≤ F.known feed.new }
+    ensures disk { disk.new ≡ disk.old }
+    ensures feed { FeedGoes (F.told feed.old) (F.told feed.new) (F.known feed.old) (F.known feed.new) (F.faults feed.old, F.calls feed.old) (F.faults feed.new, F.calls feed.new) }
+{
+    let Ok(version) = version_of(replica.catalogue(), command) else {
+        return refusal_text(alloc, &Refusal::Memory);
+    };
+    match version {
+        Some(version) => answer_by(alloc, replica, command, version, disk, feed),
+        None => answer_alone(alloc, replica, command, disk, feed),
+    }
+}
+
+/// Answers a command whose rows are read by this version.
+fn answer_by<D: Disk, F: Feed>(
+    alloc: Global,
+    replica: &mut Replica,
+    command: &Command,
+    version: SchemaVersion,
+    disk: &mut D,
+    feed: &mut F,
+) -> Result<Blob, Memory>
+    requires streams { length (state_of replica.old).streams ≤ F.known feed.old }
+    requires command { IsTrue (is_command (view_command command.now)) }
+    requires version { version_read (cat_of (state_of replica.old)) (view_command command.now) ≡ Some (view_version version) }
+    ensures belongs { (f g : Streams) → F.told feed.old ≡ Some f → F.told feed.new ≡ Some g → BelongsTo f (state_of replica.old) (memory_of replica.old) → BelongsTo g (state_of replica.new) (memory_of replica.new) }
+    ensures answered { (f g : Streams) → F.told feed.old ≡ Some f → F.told feed.new ≡ Some g → BelongsTo f (state_of replica.old) (memory_of replica.old)
+        → IfOk result (Answered (F.faults feed.old, F.calls feed.old) (F.faults feed.new, F.calls feed.new) (state_of replica.old) (state_of replica.new) (view_command command.now) g) }
+    ensures known { length (state_of replica.new).streams ≤ F.known feed.new }
+    ensures disk { disk.new ≡ disk.old }
+    ensures feed { FeedGoes (F.told feed.old) (F.told feed.new) (F.known feed.old) (F.known feed.new) (F.faults feed.old, F.calls feed.old) (F.faults feed.new, F.calls feed.new) }
+{
+    let mut rows = RowTexts::new(alloc, version);
+    let answer = replica.step(command, disk, feed, &mut rows);
+    with_line(alloc, rows.into_text(), &answer)
+}
+
+/// Answers a command that has no rows, or is refused.
+fn answer_alone<D: Disk, F: Feed>(
+    alloc: Global,
+    replica: &mut Replica,
+    command: &Command,
+    disk: &mut D,
+    feed: &mut F,
+) -> Result<Blob, Memory>
+    requires streams { length (state_of replica.old).streams ≤ F.known feed.old }
+    requires command { IsTrue (is_command (view_command command.now)) }
+    requires version { version_read (cat_of (state_of replica.old)) (view_command command.now) ≡ None }
+    ensures belongs { (f g : Streams) → F.told feed.old ≡ Some f → F.told feed.new ≡ Some g → BelongsTo f (state_of replica.old) (memory_of replica.old) → BelongsTo g (state_of replica.new) (memory_of replica.new) }
+    ensures answered { (f g : Streams) → F.told feed.old ≡ Some f → F.told feed.new ≡ Some g → BelongsTo f (state_of replica.old) (memory_of replica.old)
+        → IfOk result (Answered (F.faults feed.old, F.calls feed.old) (F.faults feed.new, F.calls feed.new) (state_of replica.old) (state_of replica.new) (view_command command.now) g) }
+    ensures known { length (state_of replica.new).streams ≤ F.known feed.new }
+    ensures disk { disk.new ≡ disk.old }
+    ensures feed { FeedGoes (F.told feed.old) (F.told feed.new) (F.known feed.old) (F.known feed.new) (F.faults feed.old, F.calls feed.old) (F.faults feed.new, F.calls feed.new) }
+{
+    let mut rows = NoRows;
+    let answer = replica.step(command, disk, feed, &mut rows);
+    line_of(alloc, &answer)
+}
+
+/// The version that a command's rows are read by, where the catalogue has it.
+fn version_of(catalogue: &Catalogue, command: &Command) -> Result<Option<SchemaVersion>, Memory>
+    ensures { IfOk result (λ version. option_map view_version version ≡ version_read catalogue.now (view_command command.now)) }
+{
+    let Command::Scan(query) = command else {
+        return Ok(None);
+    };
+    let Some(number) = catalogue.table(query.table.as_slice()) else {
+        return Ok(None);
+    };
+    match catalogue.get(number, query.version) {
+        Some(version) => Ok(Some(version.copy()?)),
+        None => Ok(None),
+    }
+}
+
+/// The text, and the line of a reply or a refusal behind it.
+fn with_line(alloc: Global, text: Blob, answer: &Result<Reply, Refusal>) -> Result<Blob, Memory>
+    requires { IfErr answer.now IsSpoken }
+    ensures { IfOk result (λ all. all ≡ text ++ result_text (answer_of answer.now)) }
+{
+    let mut text = text;
+    text.extend_from_slice(line_of(alloc, answer)?.as_slice())?;
+    Ok(text)
+}
+
+/// The line of a reply or a refusal.
+fn line_of(alloc: Global, answer: &Result<Reply, Refusal>) -> Result<Blob, Memory>
+    requires { IfErr answer.now IsSpoken }
+    ensures { IfOk result (λ line. line ≡ result_text (answer_of answer.now)) }
+{
+    match answer {
+        Ok(reply) => reply_text(alloc, reply),
+        Err(refusal) => refusal_text(alloc, refusal),
+    }
+}
