@@ -10,5 +10,9 @@ if [ -n "$missing" ]; then
   printf 'first-run does not print:\n%s\n' "$missing"
   exit 1
 fi
+for pair in "script stdin" "replies stdout"; do
+  set -- $pair
+  cmp "examples/one_stream/$1" "crates/lightning_cli/$2" || exit 1
+done
 python=$(command -v python3) || { echo "no python3: the example's bytes are not compared with docs/formats.md"; exit 0; }
 "$python" tests/example_bytes.py
