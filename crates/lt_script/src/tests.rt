@@ -62,6 +62,10 @@ fn a_line_of_a_form_is_that_command(rt: HostRuntime) -> Result<(), Fail> {
         "retire #\t\"ü 4294967295",
         "retire aaaaaaaaaaaaaaaaaaaaaaaaaaaaaaaaaaaaaaaaaaaaaaaaaaaaaaaaaaaaaaaa 7",
         "pump 0 1",
+        "retire t 1",
+        "pump 0 10",
+        "pump 0 4294967295",
+        "scan aaaaaaaaaaaaaaaaaaaaaaaaaaaaaaaaaaaaaaaaaaaaaaaaaaaaaaaaaaaaaaaa 0 5",
         "pump 1 9",
         "pump 4294967295 4294967295",
         "split t []",
@@ -88,7 +92,22 @@ fn spaces_in_a_key_do_not_part_it(rt: HostRuntime) -> Result<(), Fail> {
 
 #[test]
 fn any_other_line_is_bad(rt: HostRuntime) -> Result<(), Fail> {
-    let rows: [&[u8]; 55] = [
+    let rows: [&[u8]; 70] = [
+        b"retire ",
+        b"retire t x",
+        b"pump 0 ",
+        b"pump 0  1",
+        b"pump  0 1",
+        b" pump 0 1",
+        b"pump\t0 1",
+        b"scan t",
+        b"scan t 1 ",
+        b"scan t 01 5",
+        b"scan t 4294967296 5",
+        b"scan t 1 -5",
+        b"scan t 1 5 ",
+        b"scan aaaaaaaaaaaaaaaaaaaaaaaaaaaaaaaaaaaaaaaaaaaaaaaaaaaaaaaaaaaaaaaaa 1 5",
+        b"flush 0",
         b" ",
         b" # no comment",
         b"#\xff",
