@@ -1,79 +1,71 @@
 -- What a command is answered with is what the machine answered, with the texts of its rows before it.
-use Rattle.std.proofs.Common.{List, [], ap, append-nil, arith, inl, inr, refl, subst, sym, ℕ, ◌++◌, ◌<◌, ◌∙◌, ◌≡◌}
-use Rattle.std.specs.Prelude.{Err, IfErr, IfOk, IfSome, IsTrue, None, Ok, Option, Result, Some, false, option_and_then, option_map, unwrap_or}
-use Rattle.lt_model.specs.Disk.{Rose}
-use Rattle.lt_model.specs.Fair.{Feed}
-use Rattle.lt_model.specs.InMemory.{causes_between, line_cause}
+use Rattle.std.proofs.Common.{Bool, List, [], ap, append-nil, arith, inl, inr, refl, subst, sym, false, true, ℕ, ◌++◌, ◌∙◌, ◌≡◌}
+use Rattle.std.proofs.lemmas.Bool.{false≢true}
+use Rattle.std.specs.Prelude.{Err, IfErr, IfOk, IfSome, IsTrue, None, Ok, OnOk, Option, Result, Some, is_none, option_and_then, option_map, unwrap_or, ◌&&◌, ◌⊎◌}
+use Rattle.lt_model.specs.Disk.{DiskState, Rose}
+use Rattle.lt_model.specs.Fair.{AreShort, Feed}
+use Rattle.lt_model.specs.InMemory.{asks_all, is_all_rows, is_built, memory_causes, on_memory}
 use Rattle.lt_model.specs.Kind.{Kind}
 use Rattle.lt_model.specs.Log.{Change}
 use Rattle.lt_model.specs.Machine.{Answer, Does, Scans, State, StepBy, cat_of, refused, refuses}
-use Rattle.lt_model.specs.Outside.{BelongsTo, GivenUpTo, Memory, caused_by, texts_of}
+use Rattle.lt_model.specs.Outside.{FeedGoes, FeedState, GivenUpTo, RowSinkState, caused_by, counts_in, texts_of, world_of}
 use Rattle.lt_model.specs.Query.{Query}
 use Rattle.lt_model.specs.Reply as model
-use Rattle.lt_model.specs.Reply.{feed_fault, out_fault, out_of_memory, picked_kinds, refusal_text, row_text}
-use Rattle.lt_model.specs.Run.{Answers, Counts, FaultsIn, answer_text, asked_kinds, calls_feed, is_fault, may_end_in, result_text, rows_text}
+use Rattle.lt_model.specs.Reply.{out_fault, out_of_memory, picked_kinds, refusal_text, row_text}
+use Rattle.lt_model.specs.Run.{Answers, Counts, FaultsIn, Moment, Shows, answer_text, asked_kinds, is_fault, may_end_in, result_text, rows_text}
 use Rattle.lt_model.specs.Schema.{Catalogue, IsCatalogue, Registered, SchemaVersion, Table, registered, schema_version, table_named, whole_version}
-use Rattle.lt_model.specs.Script.{Command, do_scan}
-use Rattle.lt_model.specs.Sound.{source_of}
+use Rattle.lt_model.specs.Script.{Command, do_compact, do_deltas, do_flush, do_job_begin, do_job_drop, do_job_finish, do_job_step, do_page, do_pump, do_reopen, do_retain, do_retire, do_scan, do_schema, do_split, do_status}
+use Rattle.lt_model.specs.Sound.{Session, source_of}
+use Rattle.lt_model.specs.Step.{Served, Serves, Stepped}
 use Rattle.lt_model.specs.Value.{Value}
-use Rattle.lt_command.specs.View.{view_command, view_query}
+use Rattle.lt_command.specs.View.{view_command}
 use Rattle.lt_command.specs.declared.command.Command as code
 use Rattle.lt_command.specs.declared.command.Command.TheVariants as commands
 use Rattle.lt_command.specs.declared.command.Query as queries
-use Rattle.lt_engine.specs.Steps.{answer_of, with_rows}
+use Rattle.lt_engine.specs.State.{StandsFor}
+use Rattle.lt_engine.specs.declared.replica.Replica.{Replica}
 use Rattle.lt_laws.proofs.AnswerLaws.{named_is_numbered}
-use Rattle.lt_pump.specs.Feeds.{FeedCounts}
+use Rattle.lt_laws.proofs.FrontLaws.{grows_itself}
 use Rattle.lt_reply.proofs.RowKinds.{all_picked}
 use Rattle.lt_reply.specs.Rows.{row_kinds}
-use Rattle.lt_reply.specs.View.{view_refusal}
-use Rattle.lt_reply.specs.declared.refusal.Refusal.{Refusal}
-use Rattle.lt_reply.specs.declared.reply.Reply.{Reply}
-use Rattle.lightning_cli.specs.Commands.{Answered, feed_counts, version_named, version_read}
-use Rattle.lightning_cli.proofs.FeedLaws.{at_told}
+use Rattle.lightning_cli.specs.Commands.{HasAnswered, IsNow, StandsIn, version_named, version_read}
+use Rattle.lightning_cli.proofs.FeedLaws.{at_told, serves_grown, told_grew, told_on}
+use Rattle.lightning_cli.proofs.RefusalLaws.{refused_no_fault}
 
 -- ---- causes
 
--- a row sink that counts no fault is the cause of none
-no_out : Rose 0 0 → ⊥
-no_out h = absurd (omega (arith, h))
-
-line_caused : (a b x y : ℕ) (r : model.Refusal) → caused_by (causes_between a b 0 0) r → caused_by (causes_between a b x y) r
-line_caused a b x y model.needs_reopen h = absurd h
-line_caused a b x y model.worn h = absurd h
-line_caused a b x y (model.no_such_table name) h = absurd h
-line_caused a b x y (model.no_such_version v) h = absurd h
-line_caused a b x y (model.version_retired v) h = absurd h
-line_caused a b x y (model.is_last_version v) h = absurd h
-line_caused a b x y (model.bad_schema cause) h = absurd h
-line_caused a b x y (model.no_stream n) h = absurd h
-line_caused a b x y (model.no_partition n) h = absurd h
-line_caused a b x y (model.no_such_delta n) h = absurd h
-line_caused a b x y (model.bad_column name) h = absurd h
-line_caused a b x y (model.wrong_literal name) h = absurd h
-line_caused a b x y (model.key_too_long n) h = absurd h
-line_caused a b x y (model.too_old n) h = absurd h
-line_caused a b x y (model.not_safe n t) h = absurd h
-line_caused a b x y (model.above_durable n) h = absurd h
-line_caused a b x y (model.below_minimum n) h = absurd h
-line_caused a b x y (model.at_edge n) h = absurd h
-line_caused a b x y model.too_many_parts h = absurd h
-line_caused a b x y model.too_many_deltas h = absurd h
-line_caused a b x y model.job_open h = absurd h
-line_caused a b x y model.no_job h = absurd h
-line_caused a b x y model.not_done h = absurd h
-line_caused a b x y (model.store_full need room) h = absurd h
-line_caused a b x y model.feed_fault h = h
-line_caused a b x y model.disk_fault h = absurd h
-line_caused a b x y (model.damaged place len) h = absurd h
-line_caused a b x y model.out_fault h = absurd (no_out h)
-line_caused a b x y (model.feed_mismatch n) h = absurd h
-line_caused a b x y model.out_of_memory h = tt
-
-caused_line : (k j : FeedCounts) (n m : Counts) (g : Feed) (s : State) (c : Command) (r : model.Refusal) → feed_counts n ≡ k → feed_counts m ≡ j → caused_by (causes_between k.0 j.0 0 0) r → line_cause n m g s c r
-caused_line k j n m g s c r e d h =
-    line_caused n.feed m.feed n.out m.out r
-    (subst (λ (x : ℕ). caused_by (causes_between x m.feed 0 0) r) (sym (ap (λ (x : FeedCounts). x.0) e))
-    (subst (λ (y : ℕ). caused_by (causes_between k.0 y 0 0) r) (sym (ap (λ (x : FeedCounts). x.0) d)) h))
+-- A row sink that counts no fault is the cause of none: so it is no matter how often the script and the output had failed.
+memory_caused : (n m k j : Counts) (r : model.Refusal) → k.feed ≡ n.feed → j.feed ≡ m.feed → (Rose n.out m.out → ⊥) → caused_by (memory_causes n m) r → caused_by (memory_causes k j) r
+memory_caused n m k j model.needs_reopen e d silent h = absurd h
+memory_caused n m k j model.worn e d silent h = absurd h
+memory_caused n m k j (model.no_such_table name) e d silent h = absurd h
+memory_caused n m k j (model.no_such_version v) e d silent h = absurd h
+memory_caused n m k j (model.version_retired v) e d silent h = absurd h
+memory_caused n m k j (model.is_last_version v) e d silent h = absurd h
+memory_caused n m k j (model.bad_schema cause) e d silent h = absurd h
+memory_caused n m k j (model.no_stream x) e d silent h = absurd h
+memory_caused n m k j (model.no_partition x) e d silent h = absurd h
+memory_caused n m k j (model.no_such_delta x) e d silent h = absurd h
+memory_caused n m k j (model.bad_column name) e d silent h = absurd h
+memory_caused n m k j (model.wrong_literal name) e d silent h = absurd h
+memory_caused n m k j (model.key_too_long x) e d silent h = absurd h
+memory_caused n m k j (model.too_old x) e d silent h = absurd h
+memory_caused n m k j (model.not_safe x t) e d silent h = absurd h
+memory_caused n m k j (model.above_durable x) e d silent h = absurd h
+memory_caused n m k j (model.below_minimum x) e d silent h = absurd h
+memory_caused n m k j (model.at_edge x) e d silent h = absurd h
+memory_caused n m k j model.too_many_parts e d silent h = absurd h
+memory_caused n m k j model.too_many_deltas e d silent h = absurd h
+memory_caused n m k j model.job_open e d silent h = absurd h
+memory_caused n m k j model.no_job e d silent h = absurd h
+memory_caused n m k j model.not_done e d silent h = absurd h
+memory_caused n m k j (model.store_full need room) e d silent h = absurd h
+memory_caused n m k j model.feed_fault e d silent h = omega (arith, e, d, h)
+memory_caused n m k j model.disk_fault e d silent h = absurd h
+memory_caused n m k j (model.damaged place len) e d silent h = absurd h
+memory_caused n m k j model.out_fault e d silent h = absurd (silent h)
+memory_caused n m k j (model.feed_mismatch x) e d silent h = absurd h
+memory_caused n m k j model.out_of_memory e d silent h = tt
 
 answers_caused : (caused more : model.Refusal → Type 0) (f : Feed) (s s' : State) (c : Command) (a : Answer) → ((r : model.Refusal) → caused r → more r) → Answers caused f s c a s' → Answers more f s c a s'
 answers_caused caused more f s s' c a k h = (
@@ -85,25 +77,83 @@ answers_caused caused more f s s' c a k h = (
   ],
 )
 
--- what the machine answered, as a text
-machine_answered : (k j : FeedCounts) (g : Feed) (s t : State) (c : Command) (a : Answer) (text : List ℕ) → Answers (caused_by (causes_between k.0 j.0 0 0)) g s c a t → (a.reply ≡ Err out_fault → ⊥)
-    → (k.0 < j.0 → a.reply ≡ Err feed_fault) → (calls_feed c ≡ false → j.1 ≡ k.1) → text ≡ answer_text s c a → Answered k j s t c g text
-machine_answered k j g s t c a text h goes failed quiet is n m e d w = record {
-  answer = a;
-  text = is;
-  answers = answers_caused (caused_by (causes_between k.0 j.0 0 0)) (line_cause n m g s c) g s t c a (λ r x. caused_line k j n m g s c r e d x) h;
-  goes_on = goes;
-  feed_failed = λ l. failed (omega (arith, ap (λ (x : FeedCounts). x.0) e, ap (λ (x : FeedCounts). x.0) d, l));
-  not_called = λ q. ap (λ (x : FeedCounts). x.1) d ∙ quiet q ∙ sym (ap (λ (x : FeedCounts). x.1) e);
-  write_failed = λ l. absurd (omega (arith, w, l));
+-- no fault of such a row sink is answered
+no_out : (n m : Counts) (s : State) (c : Command) (r : Result model.Reply model.Refusal) → is_built c ≡ true → (Rose n.out m.out → ⊥)
+    → IfErr r (λ e. (refused s c ≡ Some e) ⊎ (IsTrue (is_fault e) × IsTrue (may_end_in c e) × caused_by (memory_causes n m) e)) → r ≡ Err out_fault → ⊥
+no_out n m s c (Ok reply) built silent h e = absurd cc
+no_out n m s c (Err x) built silent h e =
+    let is : x ≡ out_fault = cc in
+    elim h [
+      | inl f ↦ false≢true (sym (refused_no_fault s c built x f) ∙ ap is_fault is)
+      | inr f ↦ silent (subst (λ (y : model.Refusal). caused_by (memory_causes n m) y) is f.2)
+    ]
+
+ok_on : {A E : Type 0} {P Q : Type 0} (r : Result A E) → (P → Q) → OnOk r P → OnOk r Q
+ok_on (Ok x) k h = k h
+ok_on (Err e) k h = tt
+
+-- what the counts show, beside any counts of the script and of the output
+shows_beside : (d d' : DiskState) (f f' : FeedState) (a b x y : ℕ) (s s' : State) (c : Command) (r : Result model.Reply model.Refusal) → Shows (counts_in d f 0 a) (counts_in d' f' 0 b) s s' c r → Shows (counts_in d f x y) (counts_in d' f' x y) s s' c r
+shows_beside d d' f f' a b x y s s' c r h = record {
+  later = record { feed = h.later.feed; calls = h.later.calls; script = omega arith; disk = h.later.disk; write_faults = h.later.write_faults; out = omega arith; clock = h.later.clock };
+  succeeded = ok_on r (λ p. (p.0, p.1, p.2, refl)) h.succeeded;
+  feed_failed = h.feed_failed;
+  write_failed = h.write_failed;
+  disk_failed = h.disk_failed;
+  out_failed = λ l. absurd (omega (arith, l));
+  called = h.called;
+  not_called = h.not_called;
+  not_used = λ q. record { disk = (h.not_used q).disk; write_faults = (h.not_used q).write_faults; clock = (h.not_used q).clock };
+  breaks = h.breaks;
 }
 
--- a row sink that counts no fault has none told
-pub never_out : (a b : ℕ) (r : Result Reply Refusal) → IfErr r (λ e. IsTrue (is_fault (view_refusal e)) → caused_by (causes_between a b 0 0) (view_refusal e)) → answer_of r ≡ Err out_fault → ⊥
-never_out a b (Ok reply) h e = absurd cc
-never_out a b (Err x) h e =
-    let is : view_refusal x ≡ out_fault = cc in
-    no_out ((subst (λ (y : model.Refusal). IsTrue (is_fault y) → caused_by (causes_between a b 0 0) y) is h) refl)
+-- ---- a step leads to the next moment
+
+ok_map : {A E : Type 0} (P Q : A → Type 0) (r : Result A E) → ((x : A) → P x → Q x) → IfOk r P → IfOk r Q
+ok_map P Q (Ok x) k h = k x h
+ok_map P Q (Err e) k h = tt
+
+-- the texts of the rows that were given
+abbrev Spells : RowSinkState → RowSinkState → State → Command → Result model.Reply model.Refusal → List ℕ → Type 1
+Spells rs rs' s c r texts = (caused : model.Refusal → Type 0) (g : Feed) (t : State) (given : List (List Value)) → GivenUpTo rs rs' given r → (r ≡ Err out_fault → ⊥)
+    → Answers caused g s c (record { rows = given; reply = r }) t → texts ≡ rows_text (asked_kinds s c) given
+
+pub leads : {E : Type 0} (d d' : DiskState) (f f' : FeedState) (rs rs' : RowSinkState) (start m : Moment) (c : Command) (r : Result model.Reply model.Refusal) (replica replica' : Replica) (out : Result (List ℕ) E) (texts : List ℕ)
+    → is_built c ≡ true → (Rose rs.faults rs'.faults → ⊥) → IsNow d f start m → StandsIn d m replica → FeedGoes f f' → IfSome f'.told AreShort
+    → ((x : Session) → StandsFor replica x → (y : Session) × StandsFor replica' y × Stepped on_memory (world_of d f rs) (world_of d' f' rs') x y c r)
+    → Spells rs rs' m.session.state c r texts → IfOk out (λ text. text ≡ texts ++ result_text r) → HasAnswered start m c d' f' replica' out
+leads d d' f f' rs rs' start m c r replica replica' out texts built silent now stands goes short stepped spells text =
+    let x = m.session in
+    let led = stepped x stands.stands in
+    let y = led.0 in
+    let step = led.2 in
+    let g = told_on f.told f'.told m.feed goes.stays now.feed in
+    let grows = told_grew f.told f'.told m.feed g.0 now.feed g.1 goes.grows in
+    let serves = serves_grown d d m.feed g.0 x grows (at_told AreShort f'.told g.0 g.1 short) stands.serves in
+    let served = at_told (λ h. Serves on_memory d h x → Served on_memory h (world_of d f rs) (world_of d' f' rs') x y c r) f'.told g.0 g.1 step.served serves in
+    let n : Counts = counts_in d f 0 rs.faults in
+    let k : Counts = counts_in d' f' 0 rs'.faults in
+    let j : Counts = counts_in d' f' start.counts.script start.counts.out in
+    let a : Answer = record { rows = served.given; reply = r } in
+    let next : Moment = record { feed = g.0; counts = j; text = answer_text x.state c a; session = y } in
+    let goes_on = no_out n k x.state c r built silent (step.causes (λ q. tt)) in
+    let same : counts_in d f start.counts.script start.counts.out ≡ m.counts = sym now.counts in
+    record {
+      next = next;
+      grows = grows;
+      runs = record {
+        answer = a;
+        text = refl;
+        answers = answers_caused (λ e. caused_by (memory_causes n k) e) (λ e. caused_by (memory_causes m.counts j) e) g.0 x.state y.state c a
+            (λ e h. memory_caused n k m.counts j e (ap (λ (z : Counts). z.feed) now.counts) refl silent h) served.answers;
+        shows = subst (λ (z : Counts). Shows z j x.state y.state c r) same (shows_beside d d' f f' rs.faults rs'.faults start.counts.script start.counts.out x.state y.state c r step.shows);
+        goes_on = goes_on;
+      };
+      now = record { feed = g.1; counts = refl };
+      stands = record { stands = led.1; serves = served.serves };
+      text = ok_map (λ t. t ≡ texts ++ result_text r) (λ t. t ≡ next.text) out
+          (λ t e. e ∙ ap (λ z. z ++ result_text r) (spells (λ e. caused_by (memory_causes n k) e) g.0 y.state served.given served.rows goes_on served.answers)) text;
+    }
 
 -- ---- answers without rows
 
@@ -116,15 +166,25 @@ no_scan source s q rows none h =
     none_some (version_named (cat_of s) q.table q.version) (whole_version h.0 q.version h.1) none
     (ap (option_and_then (λ (t : Table). option_map (whole_version t q.version) (registered t q.version))) h.2 ∙ ap (option_map (whole_version h.0 q.version)) h.3)
 
-does_none : (f : Feed) (source : List Change) (s s' : State) (c : code.Command) (a : Answer) → version_read (cat_of s) (view_command c) ≡ None → Does f source s (view_command c) a s' → a.rows ≡ []
-does_none f source s s' (commands.Schema text) a none d = ap (λ (x : Answer). x.rows) d.2
-does_none f source s s' (commands.Retire table version) a none d = ap (λ (x : Answer). x.rows) d.2
-does_none f source s s' (commands.Pump stream count) a none d = ap (λ (x : Answer). x.rows) d.7.2
-does_none f source s s' (commands.Split table key) a none d = ap (λ (x : Answer). x.rows) d.2
-does_none f source s s' (commands.Scan query) a none d = absurd (no_scan source s (view_query query) a.rows none d.0)
-does_none f source s s' commands.Status a none d = ap (λ (x : Answer). x.rows) d.0
+does_none : (f : Feed) (source : List Change) (s s' : State) (c : Command) (a : Answer) → version_read (cat_of s) c ≡ None → Does f source s c a s' → a.rows ≡ []
+does_none f source s s' (do_schema t) a none d = ap (λ (x : Answer). x.rows) d.2
+does_none f source s s' (do_retire t v) a none d = ap (λ (x : Answer). x.rows) d.2
+does_none f source s s' (do_pump n k) a none d = ap (λ (x : Answer). x.rows) d.7.2
+does_none f source s s' (do_flush p) a none d = ap (λ (x : Answer). x.rows) d.0
+does_none f source s s' (do_compact p m) a none d = ap (λ (x : Answer). x.rows) d.2
+does_none f source s s' (do_job_begin p m) a none d = ap (λ (x : Answer). x.rows) d.2
+does_none f source s s' (do_job_step n) a none d = ap (λ (x : Answer). x.rows) d.2
+does_none f source s s' do_job_finish a none d = ap (λ (x : Answer). x.rows) d.2
+does_none f source s s' do_job_drop a none d = ap (λ (x : Answer). x.rows) d.0
+does_none f source s s' (do_split t k) a none d = ap (λ (x : Answer). x.rows) d.2
+does_none f source s s' (do_retain t) a none d = ap (λ (x : Answer). x.rows) d.0
+does_none f source s s' (do_scan q) a none d = absurd (no_scan source s q a.rows none d.0)
+does_none f source s s' (do_page q) a none d = absurd (no_scan source s q a.rows none d.0)
+does_none f source s s' do_status a none d = ap (λ (x : Answer). x.rows) d.0
+does_none f source s s' (do_deltas p) a none d = ap (λ (x : Answer). x.rows) d.0
+does_none f source s s' do_reopen a none d = ap (λ (x : Answer). x.rows) d.2
 
-step_none : (o : Option model.Refusal) (f : Feed) (source : List Change) (s s' : State) (c : code.Command) (a : Answer) → version_read (cat_of s) (view_command c) ≡ None → StepBy o f source s (view_command c) a s' → a.rows ≡ []
+step_none : (o : Option model.Refusal) (f : Feed) (source : List Change) (s s' : State) (c : Command) (a : Answer) → version_read (cat_of s) c ≡ None → StepBy o f source s c a s' → a.rows ≡ []
 step_none None f source s s' c a none d = does_none f source s s' c a none d
 step_none (Some r) f source s s' c a none d = ap (λ (x : Answer). x.rows) d.0
 
@@ -135,19 +195,14 @@ fault_none caused f source s s' c a none x = elim x.5 [
   | inr h ↦ absurd (no_scan source s h.0 h.1 (sym (ap (option_and_then (λ (q : Query). version_named (cat_of s) q.table q.version)) h.3) ∙ none) h.4)
 ]
 
-none_given : (caused : model.Refusal → Type 0) (f : Feed) (s s' : State) (c : code.Command) (a : Answer) → version_read (cat_of s) (view_command c) ≡ None → Answers caused f s (view_command c) a s' → a.rows ≡ []
+none_given : (caused : model.Refusal → Type 0) (f : Feed) (s s' : State) (c : Command) (a : Answer) → version_read (cat_of s) c ≡ None → Answers caused f s c a s' → a.rows ≡ []
 none_given caused f s s' c a none h = elim h.2 [
-  | inl step ↦ step_none (refused s (view_command c)) f (source_of h.0) s s' c a none step
-  | inr x ↦ fault_none caused f (source_of h.0) s s' (view_command c) a none x
+  | inl step ↦ step_none (refused s c) f (source_of h.0) s s' c a none step
+  | inr x ↦ fault_none caused f (source_of h.0) s s' c a none x
 ]
 
-pub alone_answered : (k j : FeedCounts) (g : Feed) (s t : State) (c : code.Command) (rows : List (List Value)) (answer : Result model.Reply model.Refusal) (text : List ℕ) → version_read (cat_of s) (view_command c) ≡ None
-    → Answers (caused_by (causes_between k.0 j.0 0 0)) g s (view_command c) (record { rows = rows; reply = answer }) t → (answer ≡ Err out_fault → ⊥) → (k.0 < j.0 → answer ≡ Err feed_fault) → (calls_feed (view_command c) ≡ false → j.1 ≡ k.1)
-    → text ≡ result_text answer → Answered k j s t (view_command c) g text
-alone_answered k j g s t c rows answer text none h goes failed quiet is =
-    let a : Answer = record { rows = rows; reply = answer } in
-    machine_answered k j g s t (view_command c) a text h goes failed quiet
-    (is ∙ ap (λ (xs : List (List Value)). rows_text (asked_kinds s (view_command c)) xs ++ result_text answer) (sym (none_given (caused_by (causes_between k.0 j.0 0 0)) g s t c a none h)))
+pub spells_none : (rs rs' : RowSinkState) (s : State) (c : Command) (r : Result model.Reply model.Refusal) → version_read (cat_of s) c ≡ None → Spells rs rs' s c r []
+spells_none rs rs' s c r none = λ caused g t given u other h. sym (ap (rows_text (asked_kinds s c)) (none_given caused g s t c (record { rows = given; reply = r }) none h))
 
 -- ---- answers with rows
 
@@ -163,82 +218,106 @@ kinds_of s q v all e = by (table_named (cat_of s) q.table) e
     by None e = absurd cc
     by (Some t) e = kinds_at t q v (registered t q.version) all e
 
+none_of : {A : Type 0} (o : Option A) → is_none o ≡ true → o ≡ None
+none_of None e = refl
+none_of (Some x) e = absurd (false≢true e)
+
+first_true : (a b c d e f : Bool) → (a && b && c && d && e && f) ≡ true → a ≡ true
+first_true true b c d e f h = refl
+first_true false b c d e f h = absurd (false≢true h)
+
+all_columns : (q : Query) → asks_all q ≡ true → q.columns ≡ None
+all_columns q h = none_of q.columns (first_true (is_none q.columns) (is_none q.from) (is_none q.to) (is_none q.after) (is_none q.limit) (is_all_rows q.filter) h)
+
 -- the kinds of a command's rows are those of the version that they are read by
-kinds_are : (s : State) (c : code.Command) (v : SchemaVersion) → version_read (cat_of s) (view_command c) ≡ Some v → asked_kinds s (view_command c) ≡ row_kinds v
-kinds_are s (commands.Schema text) v e = absurd cc
-kinds_are s (commands.Retire table version) v e = absurd cc
-kinds_are s (commands.Pump stream count) v e = absurd cc
-kinds_are s (commands.Split table key) v e = absurd cc
-kinds_are s (commands.Scan query) v e = kinds_of s (view_query query) v refl e
-kinds_are s commands.Status v e = absurd cc
+kinds_are : (s : State) (c : Command) (v : SchemaVersion) → is_built c ≡ true → version_read (cat_of s) c ≡ Some v → asked_kinds s c ≡ row_kinds v
+kinds_are s (do_schema t) v b e = absurd cc
+kinds_are s (do_retire t n) v b e = absurd cc
+kinds_are s (do_pump n k) v b e = absurd cc
+kinds_are s (do_flush p) v b e = absurd cc
+kinds_are s (do_compact p m) v b e = absurd cc
+kinds_are s (do_job_begin p m) v b e = absurd cc
+kinds_are s (do_job_step n) v b e = absurd cc
+kinds_are s do_job_finish v b e = absurd cc
+kinds_are s do_job_drop v b e = absurd cc
+kinds_are s (do_split t k) v b e = absurd cc
+kinds_are s (do_retain t) v b e = absurd cc
+kinds_are s (do_scan q) v b e = kinds_of s q v (all_columns q b) e
+kinds_are s (do_page q) v b e = absurd (false≢true b)
+kinds_are s do_status v b e = absurd cc
+kinds_are s (do_deltas p) v b e = absurd cc
+kinds_are s do_reopen v b e = absurd cc
+
+-- what a row sink of these texts exposes
+abbrev pub texts_state : SchemaVersion → List ℕ → RowSinkState
+texts_state v texts = record { spell = row_text (row_kinds v); told = Some texts; rows = None; faults = 0 }
 
 -- where no fault of the sink is told, all rows given were spelled
-spelled_all : (spell : List Value → List ℕ) (held texts : List ℕ) (given : List (List Value)) (answer : Result model.Reply model.Refusal) → GivenUpTo spell (Some held) (Some texts) None None given answer
-    → held ≡ [] → (answer ≡ Err out_fault → ⊥) → texts ≡ texts_of spell given
-spelled_all spell held texts given answer h none goes =
+spelled_all : (v w : SchemaVersion) (held texts : List ℕ) (given : List (List Value)) (r : Result model.Reply model.Refusal) → GivenUpTo (texts_state v held) (texts_state w texts) given r
+    → held ≡ [] → (r ≡ Err out_fault → ⊥) → texts ≡ texts_of (row_text (row_kinds v)) given
+spelled_all v w held texts given r h none goes =
+    let spell = row_text (row_kinds v) in
     let whole : h.broken_off ≡ [] = elim h.only_so [
       | inl e ↦ e
       | inr x ↦ absurd (goes x.0)
     ] in
     h.text ∙ ap (λ (x : List ℕ). x ++ (texts_of spell given ++ h.broken_off)) none ∙ ap (λ (x : List ℕ). texts_of spell given ++ x) whole ∙ append-nil (texts_of spell given)
 
-pub rows_answered : (k j : FeedCounts) (g : Feed) (s t : State) (c : code.Command) (v : SchemaVersion) (rows : List (List Value)) (answer : Result model.Reply model.Refusal) (held texts text : List ℕ) → version_read (cat_of s) (view_command c) ≡ Some v
-    → GivenUpTo (row_text (row_kinds v)) (Some held) (Some texts) None None rows answer → held ≡ []
-    → Answers (caused_by (causes_between k.0 j.0 0 0)) g s (view_command c) (record { rows = rows; reply = answer }) t → (answer ≡ Err out_fault → ⊥) → (k.0 < j.0 → answer ≡ Err feed_fault) → (calls_feed (view_command c) ≡ false → j.1 ≡ k.1)
-    → text ≡ texts ++ result_text answer → Answered k j s t (view_command c) g text
-rows_answered k j g s t c v rows answer held texts text e given none h goes failed quiet is =
-    let a : Answer = record { rows = rows; reply = answer } in
-    machine_answered k j g s t (view_command c) a text h goes failed quiet
-    (is ∙ ap (λ (x : List ℕ). x ++ result_text answer) (spelled_all (row_text (row_kinds v)) held texts rows answer given none goes ∙ ap (λ (ks : List Kind). rows_text ks rows) (sym (kinds_are s c v e))))
+pub spells_rows : (v w : SchemaVersion) (held texts : List ℕ) (s : State) (c : Command) (r : Result model.Reply model.Refusal) → is_built c ≡ true → version_read (cat_of s) c ≡ Some v → held ≡ [] → Spells (texts_state v held) (texts_state w texts) s c r texts
+spells_rows v w held texts s c r built e none = λ caused g t given u other h. spelled_all v w held texts given r u none other ∙ ap (λ (ks : List Kind). rows_text ks given) (sym (kinds_are s c v built e))
 
--- ---- what a step leaves to say
+-- ---- out of memory, where nothing was done
 
-ok_map : {A E : Type 0} (P Q : A → Type 0) (r : Result A E) → ((x : A) → P x → Q x) → IfOk r P → IfOk r Q
-ok_map P Q (Ok x) k h = k x h
-ok_map P Q (Err e) k h = tt
+lacks : (c : Command) → IsTrue (may_end_in c out_of_memory)
+lacks (do_schema t) = refl
+lacks (do_retire t v) = refl
+lacks (do_pump n k) = refl
+lacks (do_flush p) = refl
+lacks (do_compact p m) = refl
+lacks (do_job_begin p m) = refl
+lacks (do_job_step n) = refl
+lacks do_job_finish = refl
+lacks do_job_drop = refl
+lacks (do_split t k) = refl
+lacks (do_retain t) = refl
+lacks (do_scan q) = refl
+lacks (do_page q) = refl
+lacks do_status = refl
+lacks (do_deltas p) = refl
+lacks do_reopen = refl
 
-pub by_none : {E : Type 0} (told : Option Feed) (k j : FeedCounts) (g : Feed) (s t : State) (mem : Memory) (c : code.Command) (r : Result Reply Refusal) (spell : List Value → List ℕ) (out : Result (List ℕ) E) → told ≡ Some g → BelongsTo g s mem
-    → version_read (cat_of s) (view_command c) ≡ None
-    → IfSome told (λ f. BelongsTo f s mem → (given : List (List Value)) × GivenUpTo spell None None None None given (answer_of r) × Answers (caused_by (causes_between k.0 j.0 0 0)) f s (view_command c) (with_rows given r) t)
-    → IfErr r (λ e. IsTrue (is_fault (view_refusal e)) → caused_by (causes_between k.0 j.0 0 0) (view_refusal e)) → (k.0 < j.0 → answer_of r ≡ Err feed_fault) → (calls_feed (view_command c) ≡ false → j.1 ≡ k.1)
-    → IfOk out (λ line. line ≡ result_text (answer_of r)) → IfOk out (Answered k j s t (view_command c) g)
-by_none told k j g s t mem c r spell out is b none machine causes failed quiet text =
-    let m = at_told (λ f. BelongsTo f s mem → (given : List (List Value)) × GivenUpTo spell None None None None given (answer_of r) × Answers (caused_by (causes_between k.0 j.0 0 0)) f s (view_command c) (with_rows given r) t) told g is machine b in
-    ok_map (λ line. line ≡ result_text (answer_of r)) (Answered k j s t (view_command c) g) out (λ line e. alone_answered k j g s t c m.0 (answer_of r) line none m.2 (never_out k.0 j.0 r causes) failed quiet e) text
+lack_shows : (n : Counts) (s : State) (c : Command) → Shows n n s s c (Err out_of_memory)
+lack_shows n s c = record {
+  later = record { feed = omega arith; calls = omega arith; script = omega arith; disk = omega arith; write_faults = omega arith; out = omega arith; clock = omega arith };
+  succeeded = tt;
+  feed_failed = λ l. absurd (omega (arith, l));
+  write_failed = λ l. absurd (omega (arith, l));
+  disk_failed = λ free l. absurd (omega (arith, l));
+  out_failed = λ l. absurd (omega (arith, l));
+  called = λ a b. absurd (false≢true b);
+  not_called = λ q. refl;
+  not_used = λ q. record { disk = refl; write_faults = refl; clock = refl };
+  breaks = λ a b. absurd (false≢true (sym a ∙ b));
+}
 
-pub by_rows : {E : Type 0} (told : Option Feed) (k j : FeedCounts) (g : Feed) (s t : State) (mem : Memory) (c : code.Command) (v : SchemaVersion) (r : Result Reply Refusal) (held texts : List ℕ) (out : Result (List ℕ) E) → told ≡ Some g → BelongsTo g s mem
-    → version_read (cat_of s) (view_command c) ≡ Some v → held ≡ []
-    → IfSome told (λ f. BelongsTo f s mem → (given : List (List Value)) × GivenUpTo (row_text (row_kinds v)) (Some held) (Some texts) None None given (answer_of r) × Answers (caused_by (causes_between k.0 j.0 0 0)) f s (view_command c) (with_rows given r) t)
-    → IfErr r (λ e. IsTrue (is_fault (view_refusal e)) → caused_by (causes_between k.0 j.0 0 0) (view_refusal e)) → (k.0 < j.0 → answer_of r ≡ Err feed_fault) → (calls_feed (view_command c) ≡ false → j.1 ≡ k.1)
-    → IfOk out (λ all. all ≡ texts ++ result_text (answer_of r)) → IfOk out (Answered k j s t (view_command c) g)
-by_rows told k j g s t mem c v r held texts out is b some none machine causes failed quiet text =
-    let m = at_told (λ f. BelongsTo f s mem → (given : List (List Value)) × GivenUpTo (row_text (row_kinds v)) (Some held) (Some texts) None None given (answer_of r) × Answers (caused_by (causes_between k.0 j.0 0 0)) f s (view_command c) (with_rows given r) t) told g is machine b in
-    ok_map (λ all. all ≡ texts ++ result_text (answer_of r)) (Answered k j s t (view_command c) g) out
-    (λ all e. rows_answered k j g s t c v m.0 (answer_of r) held texts all some m.1 none m.2 (never_out k.0 j.0 r causes) failed quiet e) text
-
--- ---- want of memory, where nothing was done
-
-lacks : (c : code.Command) → IsTrue (may_end_in (view_command c) out_of_memory)
-lacks (commands.Schema text) = refl
-lacks (commands.Retire table version) = refl
-lacks (commands.Pump stream count) = refl
-lacks (commands.Split table key) = refl
-lacks (commands.Scan query) = refl
-lacks commands.Status = refl
-
-pub by_lack : {E : Type 0} (told : Option Feed) (k : FeedCounts) (f g : Feed) (s : State) (mem : Memory) (c : code.Command) (out : Result (List ℕ) E) → told ≡ Some f → told ≡ Some g → BelongsTo f s mem → IfOk out (λ line. line ≡ refusal_text out_of_memory)
-    → IfOk out (Answered k k s s (view_command c) g)
-by_lack told k f g s mem c out d e b text =
-    let same : f ≡ g = cc in
-    let h = subst (λ (x : Feed). BelongsTo x s mem) same b in
-    ok_map (λ line. line ≡ refusal_text out_of_memory) (Answered k k s s (view_command c) g) out
-    (λ line is. machine_answered k k g s s (view_command c) (refuses out_of_memory) line
-    (h.0, h.1.fronts, inr (out_of_memory, refl, refl, lacks c, tt, inl refl, inl refl, inl (refl, refl)))
-    (λ e. cc) (λ l. absurd (omega (arith, l))) (λ q. refl) is) text
-
--- a feed that tells one thing
-pub told_again : (told : Option Feed) (f g : Feed) (s : State) (mem : Memory) → told ≡ Some f → told ≡ Some g → BelongsTo f s mem → BelongsTo g s mem
-told_again told f g s mem d e b = let same : f ≡ g = cc in subst (λ (x : Feed). BelongsTo x s mem) same b
+pub lacks_memory : {E : Type 0} (d : DiskState) (f : FeedState) (start m : Moment) (c : Command) (replica : Replica) (out : Result (List ℕ) E) → IsNow d f start m → StandsIn d m replica
+    → IfOk out (λ line. line ≡ refusal_text out_of_memory) → HasAnswered start m c d f replica out
+lacks_memory d f start m c replica out now stands text =
+    let b = stands.serves.belongs in
+    record {
+      next = record { feed = m.feed; counts = m.counts; text = refusal_text out_of_memory; session = m.session };
+      grows = grows_itself m.feed;
+      runs = record {
+        answer = refuses out_of_memory;
+        text = refl;
+        answers = (b.0, b.1.fronts, inr (out_of_memory, refl, refl, lacks c, tt, inl refl, inl refl, inl (refl, refl)));
+        shows = lack_shows m.counts m.session.state c;
+        goes_on = λ e. absurd cc;
+      };
+      now = record { feed = now.feed; counts = now.counts };
+      stands = record { stands = stands.stands; serves = stands.serves };
+      text = text;
+    }
 
 -- ---- the version that is read by
 
@@ -263,16 +342,26 @@ abbrev number_named : Catalogue → List ℕ → Option ℕ
 number_named cat name = option_map (λ (t : Table). t.number) (table_named cat name)
 
 -- a command without a query names none
-pub read_none : (cat : Catalogue) (c : code.Command) → ((q : queries.Query) → c ≡ commands.Scan q → ⊥) → None ≡ version_read cat (view_command c)
-read_none cat (commands.Schema text) h = refl
-read_none cat (commands.Retire table version) h = refl
-read_none cat (commands.Pump stream count) h = refl
-read_none cat (commands.Split table key) h = refl
-read_none cat (commands.Scan query) h = absurd (h query refl)
-read_none cat commands.Status h = refl
+pub read_none : (cat : Catalogue) (c : code.Command) → ((q : queries.Query) → c ≡ commands.Scan q → ⊥) → ((q : queries.Query) → c ≡ commands.Page q → ⊥) → None ≡ version_read cat (view_command c)
+read_none cat (commands.Schema text) h k = refl
+read_none cat (commands.Retire table version) h k = refl
+read_none cat (commands.Pump stream count) h k = refl
+read_none cat (commands.Flush part) h k = refl
+read_none cat (commands.Compact part mode) h k = refl
+read_none cat (commands.JobBegin part mode) h k = refl
+read_none cat (commands.JobStep keys) h k = refl
+read_none cat commands.JobFinish h k = refl
+read_none cat commands.JobDrop h k = refl
+read_none cat (commands.Split table key) h k = refl
+read_none cat (commands.Retain at) h k = refl
+read_none cat (commands.Scan query) h k = absurd (h query refl)
+read_none cat (commands.Page query) h k = absurd (k query refl)
+read_none cat commands.Status h k = refl
+read_none cat (commands.Deltas part) h k = refl
+read_none cat commands.Reopen h k = refl
 
-pub read_unnamed : (cat : Catalogue) (c : code.Command) (q : queries.Query) (name : List ℕ) → c ≡ commands.Scan q → name ≡ q.table → None ≡ number_named cat name → None ≡ version_read cat (view_command c)
-read_unnamed cat c q name is same e = no_table cat q.table q.version (e ∙ ap (number_named cat) same) ∙ ap (λ (x : code.Command). version_read cat (view_command x)) (sym is)
+pub read_unnamed : (cat : Catalogue) (name bytes : List ℕ) (v : ℕ) → bytes ≡ name → None ≡ number_named cat bytes → None ≡ version_named cat name v
+read_unnamed cat name bytes v same e = no_table cat name v (e ∙ ap (number_named cat) same)
 
-pub read_named : (cat : Catalogue) (c : code.Command) (q : queries.Query) (name : List ℕ) (number : ℕ) → c ≡ commands.Scan q → name ≡ q.table → IsCatalogue cat → Some number ≡ number_named cat name → schema_version cat number q.version ≡ version_read cat (view_command c)
-read_named cat c q name number is same lawful e = numbered_version cat q.table number q.version lawful (e ∙ ap (number_named cat) same) ∙ ap (λ (x : code.Command). version_read cat (view_command x)) (sym is)
+pub read_named : (cat : Catalogue) (name bytes : List ℕ) (v number : ℕ) → bytes ≡ name → IsCatalogue cat → Some number ≡ number_named cat bytes → schema_version cat number v ≡ version_named cat name v
+read_named cat name bytes v number same lawful e = numbered_version cat name number v lawful (e ∙ ap (number_named cat) same)

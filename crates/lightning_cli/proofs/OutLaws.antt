@@ -1,16 +1,14 @@
 -- What calls append to a sink, one after another.
-use Rattle.std.proofs.lemmas.Bool.{eqb-false}
 use Rattle.std.proofs.lemmas.List.{take-take}
-use Rattle.std.proofs.Common.{Bool, take-append-drop, eqb-true, false, subst, true, ◌≡◌, ℕ, ◌+◌, ◌<◌, ◌^◌, ◌≤◌, length, length-append, List, [], ◌∷◌, ◌++◌, take, drop, refl, sym, ap, ◌∙◌, append_assoc, append-nil, arith}
+use Rattle.std.proofs.Common.{inl, inr, take-append-drop, false, subst, true, ◌≡◌, ℕ, ◌+◌, ◌<◌, ◌^◌, ◌≤◌, length, length-append, List, [], ◌∷◌, ◌++◌, take, drop, refl, sym, ap, ◌∙◌, append_assoc, append-nil, arith}
 use Rattle.std.proofs.lemmas.Fmt.{decimal_digit}
-use Rattle.lt_model.specs.Disk.{Rose}
-use Rattle.lt_model.specs.Outside.{FailsAt, StaysTold}
+use Rattle.lt_model.specs.Outside.{BytesGo, BytesState, FailsAt, StaysTold}
 use Rattle.lt_model.specs.Reply.{text_line}
 use Rattle.lt_model.specs.Run.{max_script, script_fault_text, too_long_text}
-use Rattle.std.specs.Prelude.{Err, IfSome, codes, is_some, None, Ok, OnErr, OnOk, is_err, ◌==◌, Option, Result, Some}
+use Rattle.std.specs.Prelude.{Err, IfErr, IfSome, MatchResult, codes, None, Ok, Option, Result, Some}
+use Rattle.std.specs.Result.{IsErrAnd}
 use Rattle.std.specs.Io.KnownBytes.{Appends, Consumes, IsAtEnd, Keeps}
-use Rattle.lt_model.specs.Program.{IsFront}
-use Rattle.lightning_cli.specs.Serving.{AppendsFront, Goes, IsTaken}
+use Rattle.lightning_cli.specs.Serving.{Failed, Finishes, IsTaken, OutOver, Unfailed}
 
 pub appends_nothing : (o : Option (List ℕ)) → Appends o o []
 appends_nothing None = tt
@@ -28,10 +26,6 @@ appends_kept (Some a) None q xs h k = absurd h
 appends_kept (Some a) (Some b) None xs h k = absurd k
 appends_kept (Some a) (Some b) (Some c) xs h k = k ∙ h
 
-pub on_err : {A E : Type 0} {P : Type 0} (r : Result A E) → P → OnErr r P
-on_err (Ok x) p = tt
-on_err (Err e) p = p
-
 -- what an object tells
 pub told_same : {A : Type 0} (o : Option A) (a b : A) → o ≡ Some a → o ≡ Some b → b ≡ a
 told_same o a b h k = cc
@@ -44,30 +38,9 @@ appended o p a b xs h k e = by o p h k e
     by (Some x) None h k e = absurd cc
     by (Some x) (Some y) h k e = let i : x ≡ a = cc in let j : y ≡ b = cc in sym j ∙ e ∙ ap (λ z. z ++ xs) i
 
--- a last line was written whole, or a front of it
-pub by_finish : (o p : Option (List ℕ)) (x y : ℕ) (P : ℕ → Type 0) (r status : ℕ) (line : List ℕ) → ((r ≡ 4 → ⊥) → (r ≡ status) × Appends o p line × (y ≡ x)) → (r ≡ 4 → AppendsFront o p line)
-    → (Appends o p line → P status) → ((front : List ℕ) → IsFront front line → Appends o p front → P 4) → P r
-by_finish o p x y P r status line all front whole part = by (r == 4) refl
-  where
-    by : (b : Bool) → (r == 4) ≡ b → P r
-    by true e = let four = eqb-true r 4 e in let f = front four in subst P (sym four) (part f.0 f.1 f.2)
-    by false e = let a = all (eqb-false r 4 e) in subst P (sym a.0) (whole a.1)
-
-pub ok_of : {A E : Type 0} {P : Type 0} (r : Result A E) → is_err r ≡ false → OnOk r P → P
-ok_of (Ok x) h p = p
-ok_of (Err e) h p = absurd cc
-
-pub err_of : {A E : Type 0} {P : Type 0} (r : Result A E) → is_err r ≡ true → OnErr r P → P
-err_of (Ok x) h p = absurd cc
-err_of (Err e) h p = p
-
 -- what is written behind what was written
 pub wrote_more : (a b c d e x : List ℕ) → b ≡ a ++ c → d ≡ b ++ e → e ≡ x → d ≡ a ++ (c ++ x)
 wrote_more a b c d e x h k i = k ∙ ap (λ z. z ++ e) h ∙ append_assoc a c e ∙ ap (λ z. a ++ (c ++ z)) i
-
-pub tells_on : {A : Type 0} (o p : Option A) (a : A) → StaysTold o p → o ≡ Some a → (b : A) × (p ≡ Some b)
-tells_on o None a s e = absurd (let t : false ≡ true = s.0 (ap is_some e) in cc)
-tells_on o (Some b) a s e = (b, refl)
 
 -- ---- the fixed lines
 
@@ -103,15 +76,49 @@ cut_bytes n room xs h = sym (take-append-drop room (take n xs)) ∙ ap (λ z. z 
 
 -- ---- what calls leave of a source or a sink
 
--- where nothing failed before
-pub fails_from : (told : Option (List ℕ)) (a b c : Option ℕ) → b ≡ a → FailsAt told b c → FailsAt told a c
-fails_from told a b c e h = subst (λ x. FailsAt told x c) e h
+pub bytes_stay : (a : BytesState) → BytesGo a a
+bytes_stay a = record { stays = (λ h. h, λ h. h); faults = omega arith }
 
-pub out_goes : (told : Option (List ℕ)) (faults : ℕ) → Goes told told faults faults
-out_goes told faults = record { stays = (λ h. h, λ h. h); later = omega arith }
+pub bytes_then : (a b c : BytesState) → BytesGo a b → BytesGo b c → BytesGo a c
+bytes_then a b c h k = record { stays = (λ s. k.stays.0 (h.stays.0 s), λ s. h.stays.1 (k.stays.1 s)); faults = omega (arith, h.faults, k.faults) }
 
-pub out_goes_then : (o p q : Option (List ℕ)) (x y z : ℕ) → Goes o p x y → Goes p q y z → Goes o q x z
-out_goes_then o p q x y z h k = record { stays = (λ s. k.stays.0 (h.stays.0 s), λ s. h.stays.1 (k.stays.1 s)); later = omega (arith, h.later, k.later) }
+pub unfailed_itself : (a : BytesState) → Unfailed a a
+unfailed_itself a = record { faults = refl; failed_at = refl }
+
+pub unfailed_then : (a b c : BytesState) → Unfailed a b → Unfailed b c → Unfailed a c
+unfailed_then a b c h k = record { faults = k.faults ∙ h.faults; failed_at = k.failed_at ∙ h.failed_at }
+
+pub failed_then : (a b c : BytesState) → Unfailed a b → Failed b c → Failed a c
+failed_then a b c h k = record { rose = omega (arith, h.faults, k.rose); stops = subst (λ x. FailsAt c.told x c.failed_at) h.failed_at k.stops }
+
+-- an output that did not fail, or failed
+pub out_kept : (a b : BytesState) (status : ℕ) → (status ≡ 4 → ⊥) → Unfailed a b → OutOver a b status
+out_kept a b status other h = record { failed = λ e. absurd (other e); kept = λ n. h }
+
+pub out_failed : (a b : BytesState) (status : ℕ) → status ≡ 4 → Failed a b → OutOver a b status
+out_failed a b status is h = record { failed = λ e. h; kept = λ n. absurd (n is) }
+
+pub out_finishes : (a b : BytesState) (line : List ℕ) (status result : ℕ) → (status ≡ 4 → ⊥) → Finishes a b line status result → OutOver a b result
+out_finishes a b line status result other (inl x) = out_kept a b result (λ e. other (sym x.0 ∙ e)) x.2
+out_finishes a b line status result other (inr x) = out_failed a b result x.0 x.2
+
+pub out_then : (a b c : BytesState) (status : ℕ) → Unfailed a b → OutOver b c status → OutOver a c status
+out_then a b c status h k = record { failed = λ e. failed_then a b c h (k.failed e); kept = λ n. unfailed_then a b c h (k.kept n) }
+
+pub finish_as : (a b : BytesState) (line more : List ℕ) (status result : ℕ) → line ≡ more → Finishes a b line status result → Finishes a b more status result
+finish_as a b line more status result e h = subst (λ l. Finishes a b l status result) e h
+
+pub over_as : (a b : BytesState) (x y : ℕ) → y ≡ x → OutOver a b x → OutOver a b y
+over_as a b x y e h = subst (λ n. OutOver a b n) (sym e) h
+
+-- a result of a fault is one
+pub err_match : {T E : Type 0} (P : Type 0) {Q : Type 0} (r : Result T E) (F : E → Type 0) → IsErrAnd r F → Q → MatchResult r (λ _. P) (λ _. Q)
+err_match P (Ok x) F h q = absurd h
+err_match P (Err e) F h q = q
+
+pub err_as : {T E : Type 0} (P : E → Type 0) (r : Result T E) (x : E) → IsErrAnd r (λ e. e ≡ x) → P x → IfErr r P
+err_as P (Ok y) x h p = absurd h
+err_as P (Err e) x h p = subst P (sym h) p
 
 -- ---- how much was taken of a script
 
@@ -134,6 +141,3 @@ pub read_gone : (o p : Option (List ℕ)) (xs : List ℕ) (n : ℕ) → length x
 read_gone None p xs n e h = tt
 read_gone (Some a) None xs n e h = tt
 read_gone (Some a) (Some b) xs n e h = omega (arith, e, ap length h, length-append xs b)
-
-pub rose_to : {a b x y : ℕ} → a ≡ x → b ≡ y → Rose a b → Rose x y
-rose_to e d r = omega (arith, e, d, r)

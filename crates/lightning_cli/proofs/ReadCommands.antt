@@ -1,12 +1,12 @@
 -- What a line that is read as a command spells is one that a step takes: a pump of at least one record, or a scan without a limit.
 use Rattle.std.proofs.Common.{◌≡◌, ℕ, Bool, true, false, List, [], ◌∷◌, length, refl, ap, subst}
 use Rattle.std.proofs.lemmas.Bool.{false≢true}
-use Rattle.std.specs.Prelude.{IsTrue, None, Option, Some, if◌then◌else◌, is_none, nat_le, nat_lt, not, option_and_then, option_map, ◌&&◌, ◌==◌, ◌||◌}
+use Rattle.std.specs.Prelude.{IsTrue, None, Option, Some, if◌then◌else◌, is_none, nat_lt, not, option_and_then, option_map, ◌&&◌, ◌==◌, ◌||◌}
 use Rattle.std.specs.Option.{option_map_or}
 use Rattle.std.specs.Str.{is_utf8}
 use Rattle.serde_json.specs.Read.{read}
 use Rattle.lt_model.specs.Schema.{when}
-use Rattle.lt_model.specs.InMemory.{is_all_rows, is_answered, line_read, only_answered}
+use Rattle.lt_model.specs.InMemory.{asks_all, has_options, is_all_rows, is_built, line_read, only_built}
 use Rattle.lt_model.specs.Outside.{is_command}
 use Rattle.lt_model.specs.Script.{Command, Line, Mode, bad_line, behind_words, command_in, command_of_words, count_word, do_compact, do_deltas, do_flush, do_job_begin, do_job_drop, do_job_finish, do_job_step, do_page, do_pump, do_reopen, do_retain, do_retire, do_scan, do_schema, do_split, do_status, first_byte, job_words, large_word, line_of, literals_in, max_line, mode_words, no_words, one_number, options_in, page_words, plain_query, scan_words, skipped, small_word, spells_command, split_words, table_word, two_words, with_mode, words}
 
@@ -137,41 +137,49 @@ unfolding line_of
 spelled_take line c e = read_take (nat_lt max_line (length line) || not (is_utf8 line)) (option_map_or (λ b. b == 35) (first_byte line) true) (command_in line (words line)) c (line_take line (words line)) e
 
 -- what is answered of a line is what it spells
-only_spelled : (line : List ℕ) (l : Line) (c : Command) → only_answered line l ≡ spells_command c → (l ≡ spells_command c) × (is_answered line c ≡ true)
+only_spelled : (line : List ℕ) (l : Line) (c : Command) → only_built line l ≡ spells_command c → (l ≡ spells_command c) × ((is_built c && not (has_options line c)) ≡ true)
 only_spelled line skipped c e = absurd cc
 only_spelled line bad_line c e = absurd cc
-only_spelled line (spells_command d) c e = by (is_answered line d) refl e
+only_spelled line (spells_command d) c e = by (is_built d && not (has_options line d)) refl e
   where
-    by : (b : Bool) → is_answered line d ≡ b → (if b then spells_command d else bad_line) ≡ spells_command c → (spells_command d ≡ spells_command c) × (is_answered line c ≡ true)
-    by true a e = let same : d ≡ c = cc in (ap spells_command same, subst (λ x. is_answered line x ≡ true) same a)
+    by : (b : Bool) → (is_built d && not (has_options line d)) ≡ b → (if b then spells_command d else bad_line) ≡ spells_command c → (spells_command d ≡ spells_command c) × ((is_built c && not (has_options line c)) ≡ true)
+    by true a e = let same : d ≡ c = cc in (ap spells_command same, subst (λ x. (is_built x && not (has_options line x)) ≡ true) same a)
     by false a e = absurd cc
 
-no_limit : (a b c d e f g : Bool) → ((a && b && c && d && e && f) && g) ≡ true → (e && d) ≡ true
-no_limit true true true true true f g h = refl
-no_limit true true true true false f g h = absurd (false≢true h)
-no_limit true true true false e f g h = absurd (false≢true h)
-no_limit true true false d e f g h = absurd (false≢true h)
-no_limit true false c d e f g h = absurd (false≢true h)
-no_limit false b c d e f g h = absurd (false≢true h)
+first_holds : (a b : Bool) → (a && b) ≡ true → a ≡ true
+first_holds true b h = refl
+first_holds false b h = absurd (false≢true h)
 
-answered_taken : (line : List ℕ) (c : Command) → is_answered line c ≡ true → takes_some c ≡ true → IsTrue (is_command c)
-answered_taken line (do_schema t) a h = refl
-answered_taken line (do_retire t v) a h = refl
-answered_taken line (do_pump n k) a h = h
-answered_taken line (do_flush p) a h = absurd (false≢true a)
-answered_taken line (do_compact p m) a h = absurd (false≢true a)
-answered_taken line (do_job_begin p m) a h = absurd (false≢true a)
-answered_taken line (do_job_step n) a h = absurd (false≢true a)
-answered_taken line do_job_finish a h = absurd (false≢true a)
-answered_taken line do_job_drop a h = absurd (false≢true a)
-answered_taken line (do_split t k) a h = refl
-answered_taken line (do_retain t) a h = absurd (false≢true a)
-answered_taken line (do_scan q) a h = no_limit (is_none q.columns) (is_none q.from) (is_none q.to) (is_none q.after) (is_none q.limit) (is_all_rows q.filter) (nat_le (length (words line)) 4) a
-answered_taken line (do_page q) a h = absurd (false≢true a)
-answered_taken line do_status a h = refl
-answered_taken line (do_deltas p) a h = absurd (false≢true a)
-answered_taken line do_reopen a h = absurd (false≢true a)
+both_hold : (a b : Bool) → a ≡ true → b ≡ true → (a && b) ≡ true
+both_hold true b h k = k
+both_hold false b h k = absurd (false≢true h)
 
-pub command_taken : (line : List ℕ) (c : Command) → line_read line ≡ spells_command c → IsTrue (is_command c)
+no_limit : (a b c d e f : Bool) → (a && b && c && d && e && f) ≡ true → (e && d) ≡ true
+no_limit true true true true true f g = refl
+no_limit true true true true false f g = absurd (false≢true g)
+no_limit true true true false e f g = absurd (false≢true g)
+no_limit true true false d e f g = absurd (false≢true g)
+no_limit true false c d e f g = absurd (false≢true g)
+no_limit false b c d e f g = absurd (false≢true g)
+
+built_taken : (c : Command) → is_built c ≡ true → takes_some c ≡ true → IsTrue (is_command c && is_built c)
+built_taken (do_schema t) a h = refl
+built_taken (do_retire t v) a h = refl
+built_taken (do_pump n k) a h = both_hold (nat_lt 0 k) true h refl
+built_taken (do_flush p) a h = absurd (false≢true a)
+built_taken (do_compact p m) a h = absurd (false≢true a)
+built_taken (do_job_begin p m) a h = absurd (false≢true a)
+built_taken (do_job_step n) a h = absurd (false≢true a)
+built_taken do_job_finish a h = absurd (false≢true a)
+built_taken do_job_drop a h = absurd (false≢true a)
+built_taken (do_split t k) a h = refl
+built_taken (do_retain t) a h = absurd (false≢true a)
+built_taken (do_scan q) a h = both_hold (is_none q.limit && is_none q.after) (asks_all q) (no_limit (is_none q.columns) (is_none q.from) (is_none q.to) (is_none q.after) (is_none q.limit) (is_all_rows q.filter) a) a
+built_taken (do_page q) a h = absurd (false≢true a)
+built_taken do_status a h = refl
+built_taken (do_deltas p) a h = absurd (false≢true a)
+built_taken do_reopen a h = absurd (false≢true a)
+
+pub command_taken : (line : List ℕ) (c : Command) → line_read line ≡ spells_command c → IsTrue (is_command c && is_built c)
 unfolding line_read
-command_taken line c e = let s = only_spelled line (line_of line) c e in answered_taken line c s.1 (spelled_take line c s.0)
+command_taken line c e = let s = only_spelled line (line_of line) c e in built_taken c (first_holds (is_built c) (not (has_options line c)) s.1) (spelled_take line c s.0)

@@ -1,141 +1,142 @@
 -- A run goes on line by line.
 use Rattle.std.proofs.lemmas.List.{length-take, length-take-le, take-append-le}
-use Rattle.std.proofs.Common.{drop, take-append-drop, length-append, ltb-false, ltb-true, take_all, ◌≡◌, ℕ, ◌+◌, ◌<◌, ◌≤◌, Bool, true, false, List, [], ◌∷◌, ◌++◌, length, take, refl, sym, ap, ◌∙◌, subst, arith, append_assoc, append-nil}
-use Rattle.std.specs.Prelude.{Option, Some, nat_lt, ◌==◌, min}
-use Rattle.lt_model.specs.Fair.{Feed, Grows}
-use Rattle.lt_model.specs.Script.{Command, bad_line, max_line, skipped, spells_command}
-use Rattle.lt_model.specs.Reply.{bad_line_text}
-use Rattle.lt_model.specs.Machine.{State, is_broken}
-use Rattle.lt_model.specs.InMemory.{line_cause, line_read, line_rules}
-use Rattle.lt_model.specs.Outside.{BelongsTo}
-use Rattle.lt_laws.proofs.FrontLaws.{grows_itself}
-use Rattle.lt_model.specs.Run.{AreLater, Breaks, Counts, LineRuns, LineRunsAs, Moment, Rules, Runs, counts_after, feed_after, run_text, state_after}
+use Rattle.std.proofs.Common.{drop, inl, inr, take-append-drop, length-append, ltb-false, ltb-true, take_all, ◌≡◌, ℕ, ◌+◌, ◌<◌, ◌≤◌, Bool, true, false, List, [], ◌∷◌, ◌++◌, length, take, refl, sym, ap, ◌∙◌, subst, arith, append_assoc, append-nil}
+use Rattle.std.specs.Prelude.{Result, nat_lt, ◌==◌, ◌⊎◌, min}
+use Rattle.lt_model.specs.Disk.{DiskState}
+use Rattle.lt_model.specs.InMemory.{line_read, on_memory}
+use Rattle.lt_model.specs.Outside.{FeedState}
 use Rattle.lt_model.specs.Program.{IsFront}
-use Rattle.lightning_cli.specs.Serving.{HasRun, HasRunSome, Stands, open_line, with_feed}
+use Rattle.lt_model.specs.Reply.{bad_line_text}
+use Rattle.lt_model.specs.Run.{LineRuns, LineRunsAs, Moment, Rules, Runs, last_moment, lines_ended, run_text}
+use Rattle.lt_model.specs.Script.{Command, bad_line, max_line, skipped, spells_command}
+use Rattle.lt_laws.proofs.FrontLaws.{grows_itself}
 use Rattle.lt_script.specs.Lines.{kept_of}
-use Rattle.lightning_cli.proofs.PieceLaws.{byte_ended, byte_open, end_ended, end_open}
-use Rattle.lightning_cli.specs.Commands.{Answered}
-use Rattle.lt_pump.specs.Feeds.{FeedCounts, FeedLater}
-use Rattle.lt_engine.specs.State.{memory_of, state_of}
 use Rattle.lt_engine.specs.declared.replica.Replica.{Replica}
+use Rattle.lightning_cli.specs.Commands.{HasAnswered, IsNow, StandsIn, run_rules}
+use Rattle.lightning_cli.specs.Serving.{HasRun, HasRunSome, HasRunTo, Stands, open_line}
+use Rattle.lightning_cli.specs.declared.server.Server.{Server}
+use Rattle.lightning_cli.proofs.PieceLaws.{byte_ended, byte_open, end_ended, end_open}
 
 -- the lines run, and then one more
-pub runs_more : (rules : Rules) (f : Feed) (n : Counts) (s : State) (lines : List (List ℕ)) (ms : List Moment) (line : List ℕ) (m : Moment) → Runs rules f n s lines ms
-    → LineRuns rules (feed_after f ms) (counts_after n ms) (state_after s ms) line m → Runs rules f n s (lines ++ line ∷ []) (ms ++ m ∷ [])
-runs_more rules f n s [] [] line m r l = (l, tt)
-runs_more rules f n s [] (x ∷ ms) line m r l = absurd r
-runs_more rules f n s (y ∷ lines) [] line m r l = absurd r
-runs_more rules f n s (y ∷ lines) (x ∷ ms) line m r l = (r.0, runs_more rules x.feed x.counts x.state lines ms line m r.1 l)
+runs_more : (rules : Rules) (before : Moment) (lines : List (List ℕ)) (ms : List Moment) (line : List ℕ) (m : Moment) → Runs rules before lines ms → LineRuns rules (last_moment before ms) line m → Runs rules before (lines ++ line ∷ []) (ms ++ m ∷ [])
+runs_more rules before [] [] line m r l = (l, tt)
+runs_more rules before [] (x ∷ ms) line m r l = absurd r
+runs_more rules before (y ∷ lines) [] line m r l = absurd r
+runs_more rules before (y ∷ lines) (x ∷ ms) line m r l = (r.0, runs_more rules x lines ms line m r.1 l)
 
-pub feed_more : (f : Feed) (ms : List Moment) (m : Moment) → feed_after f (ms ++ m ∷ []) ≡ m.feed
-feed_more f [] m = refl
-feed_more f (x ∷ ms) m = feed_more x.feed ms m
+last_more : (before : Moment) (ms : List Moment) (m : Moment) → last_moment before (ms ++ m ∷ []) ≡ m
+last_more before [] m = refl
+last_more before (x ∷ ms) m = last_more x ms m
 
-pub counts_more : (n : Counts) (ms : List Moment) (m : Moment) → counts_after n (ms ++ m ∷ []) ≡ m.counts
-counts_more n [] m = refl
-counts_more n (x ∷ ms) m = counts_more x.counts ms m
-
-pub state_more : (s : State) (ms : List Moment) (m : Moment) → state_after s (ms ++ m ∷ []) ≡ m.state
-state_more s [] m = refl
-state_more s (x ∷ ms) m = state_more x.state ms m
-
-pub text_more : (ms : List Moment) (m : Moment) → run_text (ms ++ m ∷ []) ≡ run_text ms ++ m.text
+text_more : (ms : List Moment) (m : Moment) → run_text (ms ++ m ∷ []) ≡ run_text ms ++ m.text
 text_more [] m = append-nil m.text
 text_more (x ∷ ms) m = ap (λ t. x.text ++ t) (text_more ms m) ∙ sym (append_assoc x.text (run_text ms) m.text)
 
-pub later_itself : (n : Counts) → AreLater n n
-later_itself n = record { feed = omega arith; calls = omega arith; script = omega arith; disk = omega arith; writes = omega arith; out = omega arith; clock = omega arith }
-
-pub feed_later : (n0 : Counts) (k j : FeedCounts) → FeedLater k j → AreLater (with_feed n0 k) (with_feed n0 j)
-feed_later n0 k j h = record { feed = h.0; calls = h.1; script = omega arith; disk = omega arith; writes = omega arith; out = omega arith; clock = omega arith }
-
--- nothing breaks where no write failed
-pub breaks_nothing : (n m : Counts) (s t : State) → m.writes ≡ n.writes → is_broken t ≡ false → Breaks n m s t
-breaks_nothing n m s t same whole = record { broken = λ w. absurd (omega (arith, same, w)); only_so = λ a b. absurd cc }
-
 -- ---- what was answered goes on by a line
 
--- one more line, by what it leads to
-pub more_run : (f0 : Feed) (n0 : Counts) (s0 : State) (lines : List (List ℕ)) (written : List ℕ) (f : Feed) (k : FeedCounts) (replica : Replica) (replies line : List ℕ) (m : Moment) (g : Feed) (j : FeedCounts) (more : Replica)
-    → HasRun f0 n0 s0 lines written f k replica replies → LineRuns line_rules f (with_feed n0 k) (state_of replica) line m
-    → m.feed ≡ g → m.counts ≡ with_feed n0 j → m.state ≡ state_of more → BelongsTo g (state_of more) (memory_of more) → HasRun f0 n0 s0 (lines ++ line ∷ []) written g j more (replies ++ m.text)
-more_run f0 n0 s0 lines written f k replica replies line m g j more h l feed_is counts_is state_is has =
-    let l1 = subst (λ x. LineRuns line_rules x (with_feed n0 k) (state_of replica) line m) (sym h.feed) l in
-    let l2 = subst (λ x. LineRuns line_rules (feed_after f0 h.moments) x (state_of replica) line m) (sym h.counts) l1 in
-    let l3 = subst (λ x. LineRuns line_rules (feed_after f0 h.moments) (counts_after n0 h.moments) x line m) (sym h.state) l2 in
+-- one more line, by the moment that it leads to
+more_run : (start : Moment) (lines : List (List ℕ)) (written : List ℕ) (d d' : DiskState) (f f' : FeedState) (replica replica' : Replica) (replies line : List ℕ) (m : Moment) → (h : HasRun start lines written d f replica replies)
+    → LineRuns run_rules (last_moment start h.moments) line m → IsNow d' f' start m → StandsIn d' m replica' → HasRun start (lines ++ line ∷ []) written d' f' replica' (replies ++ m.text)
+more_run start lines written d d' f f' replica replica' replies line m h l now stands =
+    let last : m ≡ last_moment start (h.moments ++ m ∷ []) = sym (last_more start h.moments m) in
     record {
       moments = h.moments ++ m ∷ [];
-      runs = runs_more line_rules f0 n0 s0 lines h.moments line m h.runs l3;
-      feed = feed_more f0 h.moments m ∙ feed_is;
-      counts = counts_more n0 h.moments m ∙ counts_is;
-      state = state_more s0 h.moments m ∙ state_is;
-      has = has;
+      runs = runs_more run_rules start lines h.moments line m h.runs l;
+      now = subst (λ x. IsNow d' f' start x) last now;
+      stands = subst (λ x. StandsIn d' x replica') last stands;
       text = text_more h.moments m ∙ ap (λ t. t ++ m.text) h.text ∙ append_assoc written replies m.text;
     }
 
--- a line that adds a text, and leaves the feed and the replica
-pub quiet_line : (f0 : Feed) (n0 : Counts) (s0 : State) (lines : List (List ℕ)) (written : List ℕ) (f : Feed) (k : FeedCounts) (replica : Replica) (replies line text : List ℕ)
-    → HasRun f0 n0 s0 lines written f k replica replies
-    → LineRunsAs line_cause (with_feed n0 k) (state_of replica) (line_read line) (record { feed = f; counts = with_feed n0 k; text = text; state = state_of replica })
-    → HasRun f0 n0 s0 (lines ++ line ∷ []) written f k replica (replies ++ text)
-quiet_line f0 n0 s0 lines written f k replica replies line text h r =
-    let m : Moment = record { feed = f; counts = with_feed n0 k; text = text; state = state_of replica } in
-    more_run f0 n0 s0 lines written f k replica replies line m f k replica h
-    (record { grows = grows_itself f; later = later_itself (with_feed n0 k); runs = r; breaks = breaks_nothing (with_feed n0 k) (with_feed n0 k) (state_of replica) (state_of replica) refl refl })
-    refl refl refl h.has
+-- a line that is no command adds a text, and leaves all else
+quiet_line : (start : Moment) (lines : List (List ℕ)) (written : List ℕ) (d : DiskState) (f : FeedState) (replica : Replica) (replies line text : List ℕ) → (h : HasRun start lines written d f replica replies)
+    → LineRunsAs on_memory.cause (last_moment start h.moments) (line_read line) (record (last_moment start h.moments) { text = text }) → HasRun start (lines ++ line ∷ []) written d f replica (replies ++ text)
+quiet_line start lines written d f replica replies line text h r =
+    let last = last_moment start h.moments in
+    more_run start lines written d d f f replica replica replies line (record last { text = text }) h
+    (record { grows = grows_itself last.feed; runs = r })
+    (record { feed = h.now.feed; counts = h.now.counts })
+    (record { stands = h.stands.stands; serves = h.stands.serves })
 
-pub skipped_runs : {f0 : Feed} {n0 : Counts} {s0 : State} {lines : List (List ℕ)} {written : List ℕ} {f : Feed} {k : FeedCounts} {replica : Replica} {replies : List ℕ} (line : List ℕ)
-    → line_read line ≡ skipped → HasRun f0 n0 s0 lines written f k replica replies → HasRun f0 n0 s0 (lines ++ line ∷ []) written f k replica replies
-skipped_runs {f0} {n0} {s0} {lines} {written} {f} {k} {replica} {replies} line e h =
-    subst (λ r. HasRun f0 n0 s0 (lines ++ line ∷ []) written f k replica r) (append-nil replies)
-    (quiet_line f0 n0 s0 lines written f k replica replies line [] h
-    (subst (λ x. LineRunsAs line_cause (with_feed n0 k) (state_of replica) x (record { feed = f; counts = with_feed n0 k; text = []; state = state_of replica })) (sym e) (refl, refl, refl)))
+pub skipped_runs : {start : Moment} {lines : List (List ℕ)} {written : List ℕ} {d : DiskState} {f : FeedState} {replica : Replica} {replies : List ℕ} (line : List ℕ)
+    → line_read line ≡ skipped → HasRun start lines written d f replica replies → HasRun start (lines ++ line ∷ []) written d f replica replies
+skipped_runs {start} {lines} {written} {d} {f} {replica} {replies} line e h =
+    let last = last_moment start h.moments in
+    subst (λ r. HasRun start (lines ++ line ∷ []) written d f replica r) (append-nil replies)
+    (quiet_line start lines written d f replica replies line [] h (subst (λ x. LineRunsAs on_memory.cause last x (record last { text = [] })) (sym e) (refl, refl, refl)))
 
-pub bad_runs : {f0 : Feed} {n0 : Counts} {s0 : State} {lines : List (List ℕ)} {written : List ℕ} {f : Feed} {k : FeedCounts} {replica : Replica} {replies : List ℕ} (line more : List ℕ)
-    → line_read line ≡ bad_line → more ≡ replies ++ bad_line_text → HasRun f0 n0 s0 lines written f k replica replies → HasRun f0 n0 s0 (lines ++ line ∷ []) written f k replica more
-bad_runs {f0} {n0} {s0} {lines} {written} {f} {k} {replica} {replies} line more e m h =
-    subst (λ r. HasRun f0 n0 s0 (lines ++ line ∷ []) written f k replica r) (sym m)
-    (quiet_line f0 n0 s0 lines written f k replica replies line bad_line_text h
-    (subst (λ x. LineRunsAs line_cause (with_feed n0 k) (state_of replica) x (record { feed = f; counts = with_feed n0 k; text = bad_line_text; state = state_of replica })) (sym e) (refl, refl, refl)))
+pub bad_runs : {start : Moment} {lines : List (List ℕ)} {written : List ℕ} {d : DiskState} {f : FeedState} {replica : Replica} {replies : List ℕ} (line more : List ℕ)
+    → line_read line ≡ bad_line → more ≡ replies ++ bad_line_text → HasRun start lines written d f replica replies → HasRun start (lines ++ line ∷ []) written d f replica more
+bad_runs {start} {lines} {written} {d} {f} {replica} {replies} line more e m h =
+    let last = last_moment start h.moments in
+    subst (λ r. HasRun start (lines ++ line ∷ []) written d f replica r) (sym m)
+    (quiet_line start lines written d f replica replies line bad_line_text h (subst (λ x. LineRunsAs on_memory.cause last x (record last { text = bad_line_text })) (sym e) (refl, refl, refl)))
 
-pub command_runs : {f0 : Feed} {n0 : Counts} {s0 : State} {lines : List (List ℕ)} {written : List ℕ} {f g : Feed} {k j : FeedCounts} {replica more : Replica} {replies : List ℕ} (line text new : List ℕ) (c : Command)
-    → line_read line ≡ spells_command c → Grows f g → FeedLater k j → BelongsTo g (state_of more) (memory_of more) → Answered k j (state_of replica) (state_of more) c g text → new ≡ replies ++ text
-    → HasRun f0 n0 s0 lines written f k replica replies → HasRun f0 n0 s0 (lines ++ line ∷ []) written g j more new
-command_runs {f0} {n0} {s0} {lines} {written} {f} {g} {k} {j} {replica} {more} {replies} line text new c e grows later has answered new_is h =
-    let m : Moment = record { feed = g; counts = with_feed n0 j; text = text; state = state_of more } in
-    let r = answered (with_feed n0 k) (with_feed n0 j) refl refl refl in
-    subst (λ r. HasRun f0 n0 s0 (lines ++ line ∷ []) written g j more r) (sym new_is)
-    (more_run f0 n0 s0 lines written f k replica replies line m g j more h
-    (record {
-      grows = grows;
-      later = feed_later n0 k j later;
-      runs = subst (λ x. LineRunsAs line_cause (with_feed n0 k) (state_of replica) x m) (sym e) r;
-      breaks = breaks_nothing (with_feed n0 k) (with_feed n0 j) (state_of replica) (state_of more) refl refl;
-    })
-    refl refl refl has)
+pub command_runs : {E : Type 0} {start : Moment} {lines : List (List ℕ)} {written : List ℕ} {d d' : DiskState} {f f' : FeedState} {replica replica' : Replica} {replies : List ℕ} {out : Result (List ℕ) E} (line : List ℕ) (c : Command)
+    → line_read line ≡ spells_command c → (h : HasRun start lines written d f replica replies) → (a : HasAnswered start (last_moment start h.moments) c d' f' replica' out) → HasRun start (lines ++ line ∷ []) written d' f' replica' (replies ++ a.next.text)
+command_runs {E} {start} {lines} {written} {d} {d'} {f} {f'} {replica} {replica'} {replies} line c e h a =
+    more_run start lines written d d' f f' replica replica' replies line a.next h
+    (record { grows = a.grows; runs = subst (λ x. LineRunsAs on_memory.cause (last_moment start h.moments) x a.next) (sym e) a.runs }) a.now a.stands
 
--- an object tells one thing
-pub same_told : {f0 : Feed} {n0 : Counts} {s0 : State} {lines : List (List ℕ)} {written : List ℕ} {f g : Feed} {k : FeedCounts} {replica : Replica} {replies : List ℕ} (told : Option Feed)
-    → told ≡ Some f → told ≡ Some g → HasRun f0 n0 s0 lines written f k replica replies → HasRun f0 n0 s0 lines written g k replica replies
-same_told {f0} {n0} {s0} {lines} {written} {f} {g} {k} {replica} {replies} told h e r = let same : f ≡ g = cc in subst (λ x. HasRun f0 n0 s0 lines written x k replica replies) same r
+pub run_replies : {start : Moment} {lines : List (List ℕ)} {written : List ℕ} {d : DiskState} {f : FeedState} {replica : Replica} {replies : List ℕ} (now : List ℕ)
+    → replies ≡ now → HasRun start lines written d f replica replies → HasRun start lines written d f replica now
+run_replies {start} {lines} {written} {d} {f} {replica} now e h = subst (λ x. HasRun start lines written d f replica x) e h
+
+-- ---- where a run is broken off
+
+-- a front of the replies was written besides
+pub run_front : {start : Moment} {lines : List (List ℕ)} {written : List ℕ} {d : DiskState} {f : FeedState} {replica : Replica} {replies : List ℕ} (front : List ℕ) → IsFront front replies → HasRun start lines written d f replica replies → HasRunTo start lines (written ++ front) d f
+run_front {start} {lines} {written} front begins h = record {
+  moments = h.moments;
+  runs = h.runs;
+  now = h.now;
+  front = (begins.0, h.text ∙ ap (λ x. written ++ x) begins.1 ∙ sym (append_assoc written front begins.0));
+}
+
+pub run_to : {start : Moment} {lines : List (List ℕ)} {written : List ℕ} {d : DiskState} {f : FeedState} {replica : Replica} {replies : List ℕ} → HasRun start lines written d f replica replies → HasRunTo start lines written d f
+run_to {start} {lines} {written} {d} {f} {replica} {replies} h = record { moments = h.moments; runs = h.runs; now = h.now; front = (replies, h.text) }
+
+pub to_some : {start : Moment} {written : List ℕ} {d : DiskState} {f : FeedState} (part bytes : List ℕ) → IsFront part bytes → HasRunTo start (lines_ended part) written d f → HasRunSome start bytes written d f
+to_some part bytes begins h = record { part = part; begins = begins; run = h }
+
+pub front_then : (a b c : List ℕ) → IsFront a b → IsFront b c → IsFront a c
+front_then a b c h k = (h.0 ++ k.0, k.1 ∙ ap (λ x. x ++ k.0) h.1 ∙ append_assoc a h.0 k.0)
+
+pub some_more : {start : Moment} {bytes written : List ℕ} {d : DiskState} {f : FeedState} (more : List ℕ) → IsFront bytes more → HasRunSome start bytes written d f → HasRunSome start more written d f
+some_more {start} {bytes} more begins h = record { part = h.part; begins = front_then h.part bytes more h.begins begins; run = h.run }
+
+pub some_written : {start : Moment} {bytes written now : List ℕ} {d : DiskState} {f : FeedState} → written ≡ now → HasRunSome start bytes written d f → HasRunSome start bytes now d f
+some_written {start} {bytes} {written} {now} {d} {f} e h = subst (λ x. HasRunSome start bytes x d f) e h
+
+pub front_of_bytes : (before bytes : List ℕ) (i : ℕ) → IsFront (before ++ take i bytes) (before ++ bytes)
+front_of_bytes before bytes i = (drop i bytes, ap (λ x. before ++ x) (sym (take-append-drop i bytes)) ∙ sym (append_assoc before (take i bytes) (drop i bytes)))
+
+pub front_itself : (bytes : List ℕ) → IsFront bytes bytes
+front_itself bytes = ([], sym (append-nil bytes))
 
 -- ---- byte by byte
 
 -- a byte that ends the line
-pub ended_stands : {f0 : Feed} {n0 : Counts} {s0 : State} {written : List ℕ} {f g : Feed} {k j : FeedCounts} {replica more : Replica} {replies new kept : List ℕ} (before now : List ℕ) (b : ℕ) → b ≡ 10
-    → ((lines : List (List ℕ)) (line : List ℕ) → kept ≡ kept_of line → HasRun f0 n0 s0 lines written f k replica replies → HasRun f0 n0 s0 (lines ++ line ∷ []) written g j more new)
-    → now ≡ [] → Stands f0 n0 s0 before written f k replica replies kept → Stands f0 n0 s0 (before ++ b ∷ []) written g j more new now
-ended_stands {f0} {n0} {s0} {written} {f} {g} {k} {j} {replica} {more} {replies} {new} before now b is answers empty s = subst (λ x. Stands f0 n0 s0 (before ++ x ∷ []) written g j more new now) (sym is) (record {
-  run = subst (λ ls. HasRun f0 n0 s0 ls written g j more new) (sym (end_ended before)) (answers _ (open_line before) s.line s.run);
+pub ended_stands : {start : Moment} {written : List ℕ} {d : DiskState} {f : FeedState} (before : List ℕ) (b : ℕ) (s : Server) → b ≡ 10
+    → HasRun start (lines_ended before ++ open_line before ∷ []) written d f s.replica s.replies.items → s.line.items ≡ [] → Stands start (before ++ b ∷ []) written d f s
+ended_stands {start} {written} {d} {f} before b s is h empty = subst (λ x. Stands start (before ++ x ∷ []) written d f s) (sym is) (record {
+  run = subst (λ ls. HasRun start ls written d f s.replica s.replies.items) (sym (end_ended before)) h;
   line = empty ∙ ap kept_of (sym (end_open before));
 })
 
+-- where the line that it ends found no memory
+pub ended_some : {start : Moment} {written : List ℕ} {d : DiskState} {f : FeedState} (before : List ℕ) (b : ℕ) → b ≡ 10
+    → HasRunTo start (lines_ended before) written d f ⊎ HasRunTo start (lines_ended before ++ open_line before ∷ []) written d f → HasRunSome start (before ++ b ∷ []) written d f
+ended_some before b is (inl h) = to_some before (before ++ b ∷ []) (b ∷ [], refl) h
+ended_some {start} {written} {d} {f} before b is (inr h) = subst (λ x. HasRunSome start (before ++ x ∷ []) written d f) (sym is)
+    (to_some (before ++ 10 ∷ []) (before ++ 10 ∷ []) (front_itself (before ++ 10 ∷ [])) (subst (λ ls. HasRunTo start ls written d f) (sym (end_ended before)) h))
+
 -- a byte that goes on with it
-pub goes_stands : {f0 : Feed} {n0 : Counts} {s0 : State} {written : List ℕ} {f : Feed} {k : FeedCounts} {replica : Replica} {replies kept : List ℕ} (before now : List ℕ) (b : ℕ)
-    → (b == 10) ≡ false → (kept ≡ kept_of (open_line before) → now ≡ kept_of (open_line before ++ b ∷ [])) → Stands f0 n0 s0 before written f k replica replies kept → Stands f0 n0 s0 (before ++ b ∷ []) written f k replica replies now
-goes_stands {f0} {n0} {s0} {written} {f} {k} {replica} {replies} before now b no_end line s = record {
-  run = subst (λ ls. HasRun f0 n0 s0 ls written f k replica replies) (sym (byte_ended before b no_end)) s.run;
-  line = line s.line ∙ ap kept_of (sym (byte_open before b no_end));
+pub goes_stands : {start : Moment} {written : List ℕ} {d : DiskState} {f : FeedState} (before : List ℕ) (b : ℕ) (s t : Server) → (b == 10) ≡ false → t.replica ≡ s.replica → t.replies.items ≡ s.replies.items
+    → (s.line.items ≡ kept_of (open_line before) → t.line.items ≡ kept_of (open_line before ++ b ∷ [])) → Stands start before written d f s → Stands start (before ++ b ∷ []) written d f t
+goes_stands {start} {written} {d} {f} before b s t no_end same replies line h = record {
+  run = subst (λ r. HasRun start (lines_ended (before ++ b ∷ [])) written d f r t.replies.items) (sym same)
+      (run_replies t.replies.items (sym replies) (subst (λ ls. HasRun start ls written d f s.replica s.replies.items) (sym (byte_ended before b no_end)) h.run));
+  line = line h.line ∙ ap kept_of (sym (byte_open before b no_end));
 }
 
 -- the first bytes of a line that goes on
@@ -157,67 +158,21 @@ kept_full line b kept e long =
     let enough : max_line + 1 ≤ length line = omega (arith, long, ap length e, n) in
     e ∙ sym (take-append-le (max_line + 1) line (b ∷ []) enough)
 
-pub same_stands : {f0 : Feed} {n0 : Counts} {s0 : State} {before written : List ℕ} {f g : Feed} {k : FeedCounts} {replica : Replica} {replies kept : List ℕ} (told : Option Feed)
-    → told ≡ Some f → told ≡ Some g → Stands f0 n0 s0 before written f k replica replies kept → Stands f0 n0 s0 before written g k replica replies kept
-same_stands told h e s = record { run = same_told told h e s.run; line = s.line }
+-- ---- the same by another name
 
-pub stands_at : {f0 : Feed} {n0 : Counts} {s0 : State} {written : List ℕ} {f : Feed} {k : FeedCounts} {replica : Replica} {replies kept : List ℕ} (before now : List ℕ)
-    → before ≡ now → Stands f0 n0 s0 before written f k replica replies kept → Stands f0 n0 s0 now written f k replica replies kept
-stands_at {f0} {n0} {s0} {written} {f} {k} {replica} {replies} {kept} before now e s = subst (λ x. Stands f0 n0 s0 x written f k replica replies kept) e s
+pub stands_at : {start : Moment} {written now : List ℕ} {d : DiskState} {f : FeedState} {s : Server} (before bytes : List ℕ) → before ≡ bytes → written ≡ now → Stands start before written d f s → Stands start bytes now d f s
+stands_at {start} {written} {now} {d} {f} {s} before bytes e h x = subst (λ b. Stands start b now d f s) e (subst (λ w. Stands start before w d f s) h x)
 
--- where the run stands is where some first lines were answered
-pub has_run_some : {f0 : Feed} {n0 : Counts} {s0 : State} {part written : List ℕ} {f : Feed} {k : FeedCounts} {replica : Replica} {replies kept : List ℕ} (g : Feed) (j : FeedCounts) (bytes : List ℕ)
-    → IsFront part bytes → Grows f g → FeedLater k j → Stands f0 n0 s0 part written f k replica replies kept → HasRunSome f0 n0 s0 bytes written g j 10
-has_run_some {f0} {n0} {s0} {part} {written} {f} {k} {replica} {replies} g j bytes begins grows later s = record {
-  part = part;
-  begins = begins;
-  moments = s.run.moments;
-  runs = s.run.runs;
-  front = (replies, s.run.text);
-  over = record {
-    grows = subst (λ x. Grows x g) (sym s.run.feed) grows;
-    later = subst (λ x. AreLater x (with_feed n0 j)) (sym s.run.counts) (feed_later n0 k j later);
-    feed_kept = λ other. absurd (other refl);
-    not_called = λ other. absurd (other refl);
-  };
+-- some first replies were written, and the others are kept
+pub flushed : {start : Moment} {bytes written : List ℕ} {d : DiskState} {f : FeedState} (s t : Server) (first : List ℕ) → t.replica ≡ s.replica → t.line.items ≡ s.line.items → s.replies.items ≡ first ++ t.replies.items
+    → Stands start bytes written d f s → Stands start bytes (written ++ first) d f t
+flushed {start} {bytes} {written} {d} {f} s t first same line replies h = record {
+  run = subst (λ r. HasRun start (lines_ended bytes) (written ++ first) d f r t.replies.items) (sym same) (record {
+    moments = h.run.moments;
+    runs = h.run.runs;
+    now = h.run.now;
+    stands = h.run.stands;
+    text = h.run.text ∙ ap (λ r. written ++ r) replies ∙ sym (append_assoc written first t.replies.items);
+  });
+  line = line ∙ h.line;
 }
-
-pub front_of_bytes : (before bytes : List ℕ) (i : ℕ) → IsFront (before ++ take i bytes) (before ++ bytes)
-front_of_bytes before bytes i = (drop i bytes, ap (λ x. before ++ x) (sym (take-append-drop i bytes)) ∙ sym (append_assoc before (take i bytes) (drop i bytes)))
-
--- the same where a front of the replies was written besides
-pub has_run_front : {f0 : Feed} {n0 : Counts} {s0 : State} {part written : List ℕ} {f : Feed} {k : FeedCounts} {replica : Replica} {replies kept : List ℕ} (g : Feed) (bytes front : List ℕ)
-    → IsFront part bytes → IsFront front replies → Grows f g → Stands f0 n0 s0 part written f k replica replies kept → HasRunSome f0 n0 s0 bytes (written ++ front) g k 4
-has_run_front {f0} {n0} {s0} {part} {written} {f} {k} {replica} {replies} g bytes front begins of_replies grows s = record {
-  part = part;
-  begins = begins;
-  moments = s.run.moments;
-  runs = s.run.runs;
-  front = (of_replies.0, s.run.text ∙ ap (λ x. written ++ x) of_replies.1 ∙ sym (append_assoc written front of_replies.0));
-  over = record {
-    grows = subst (λ x. Grows x g) (sym s.run.feed) grows;
-    later = subst (λ x. AreLater x (with_feed n0 k)) (sym s.run.counts) (later_itself (with_feed n0 k));
-    feed_kept = λ other. sym (ap (λ (n : Counts). n.feed) s.run.counts);
-    not_called = λ other. sym (ap (λ (n : Counts). n.calls) s.run.counts);
-  };
-}
-
-pub front_itself : (bytes : List ℕ) → IsFront bytes bytes
-front_itself bytes = ([], sym (append-nil bytes))
-
-pub run_at : {f0 : Feed} {n0 : Counts} {s0 : State} {lines : List (List ℕ)} {written : List ℕ} {f : Feed} {k : FeedCounts} {replica : Replica} {replies : List ℕ} (j : FeedCounts)
-    → k ≡ j → HasRun f0 n0 s0 lines written f k replica replies → HasRun f0 n0 s0 lines written f j replica replies
-run_at {f0} {n0} {s0} {lines} {written} {f} {k} {replica} {replies} j e h = subst (λ x. HasRun f0 n0 s0 lines written f x replica replies) e h
-
-pub stands_with : {f0 : Feed} {n0 : Counts} {s0 : State} {bytes written : List ℕ} {f : Feed} {k : FeedCounts} {replica : Replica} {replies kept : List ℕ} (j : FeedCounts)
-    → k ≡ j → Stands f0 n0 s0 bytes written f k replica replies kept → Stands f0 n0 s0 bytes written f j replica replies kept
-stands_with j e s = record { run = run_at j e s.run; line = s.line }
-
-pub stands_to : {f0 : Feed} {n0 : Counts} {s0 : State} {bytes written : List ℕ} {f : Feed} {k : FeedCounts} {replica more : Replica} {replies kept now : List ℕ}
-    → replica ≡ more → kept ≡ now → Stands f0 n0 s0 bytes written f k replica replies kept → Stands f0 n0 s0 bytes written f k more replies now
-stands_to {f0} {n0} {s0} {bytes} {written} {f} {k} {replica} {more} {replies} {kept} {now} e h s =
-    subst (λ x. Stands f0 n0 s0 bytes written f k x replies now) e (subst (λ x. Stands f0 n0 s0 bytes written f k replica replies x) h s)
-
-pub run_replies : {f0 : Feed} {n0 : Counts} {s0 : State} {lines : List (List ℕ)} {written : List ℕ} {f : Feed} {k : FeedCounts} {replica : Replica} {replies : List ℕ} (now : List ℕ)
-    → replies ≡ now → HasRun f0 n0 s0 lines written f k replica replies → HasRun f0 n0 s0 lines written f k replica now
-run_replies {f0} {n0} {s0} {lines} {written} {f} {k} {replica} {replies} now e h = subst (λ x. HasRun f0 n0 s0 lines written f k replica x) e h

@@ -1,20 +1,17 @@
--- What a command is answered with, and the version that its rows are read by.
-use Rattle.std.specs.Prelude.{List, Option, option_and_then, option_map, ℕ, ◌≡◌}
-use Rattle.lt_model.specs.Fair.{Feed}
-use Rattle.lt_model.specs.InMemory.{line_cause}
-use Rattle.lt_model.specs.Machine.{State, query_of}
-use Rattle.lt_model.specs.Run.{CommandRuns, Counts}
+-- What a command leads to, and the version that its rows are read by.
+use Rattle.std.specs.Prelude.{IfOk, List, Option, Result, Some, option_and_then, option_map, ℕ, ◌≡◌}
+use Rattle.lt_model.specs.Disk.{DiskState}
+use Rattle.lt_model.specs.Fair.{Grows}
+use Rattle.lt_model.specs.InMemory.{in_memory, on_memory}
+use Rattle.lt_model.specs.Machine.{query_of}
+use Rattle.lt_model.specs.Outside.{FeedState, counts_in}
+use Rattle.lt_model.specs.Program.{rules_of}
+use Rattle.lt_model.specs.Run.{CommandRuns, Moment, Rules}
 use Rattle.lt_model.specs.Schema.{Catalogue, SchemaVersion, registered, table_named, whole_version}
 use Rattle.lt_model.specs.Script.{Command}
-use Rattle.lt_pump.specs.Feeds.{FeedCounts}
-
-abbrev pub feed_counts : Counts → FeedCounts
-feed_counts n = (n.feed, n.calls)
-
--- A text answers a command, whatever else was counted: the feed's counts went so, and no write failed.
-abbrev pub Answered : FeedCounts → FeedCounts → State → State → Command → Feed → List ℕ → Type 0
-Answered before now old new c f text = (n m : Counts) → feed_counts n ≡ before → feed_counts m ≡ now → m.writes ≡ n.writes
-    → CommandRuns line_cause n old c (record { feed = f; counts = m; text = text; state = new })
+use Rattle.lt_model.specs.Step.{Serves}
+use Rattle.lt_engine.specs.State.{StandsFor}
+use Rattle.lt_engine.specs.declared.replica.Replica.{Replica}
 
 -- the version of the table with a name
 abbrev pub version_named : Catalogue → List ℕ → ℕ → Option SchemaVersion
@@ -23,3 +20,26 @@ version_named cat name v = option_and_then (λ t. option_map (whole_version t v)
 -- the version that a command's rows are read by, where the catalogue has it
 abbrev pub version_read : Catalogue → Command → Option SchemaVersion
 version_read cat c = option_and_then (λ q. version_named cat q.table q.version) (query_of c)
+
+-- what a run goes by
+abbrev pub run_rules : Rules
+run_rules = rules_of in_memory
+
+-- A moment is now: it has the feed and the counts of the objects. While a run goes on its script and its output have not failed.
+pub record IsNow (d : DiskState) (f : FeedState) (start m : Moment) : Type 0 where
+  pub feed : f.told ≡ Some m.feed
+  pub counts : m.counts ≡ counts_in d f start.counts.script start.counts.out
+
+-- The replica stands in a moment: for its session, which serves its feed.
+pub record StandsIn (d : DiskState) (m : Moment) (replica : Replica) : Type 0 where
+  pub stands : StandsFor replica m.session
+  pub serves : Serves on_memory d m.feed m.session
+
+-- A command led from a moment to one that is now, in which the replica stands. What is given is its text.
+pub record HasAnswered {E : Type 0} (start m : Moment) (c : Command) (d : DiskState) (f : FeedState) (replica : Replica) (result : Result (List ℕ) E) : Type 0 where
+  pub next : Moment
+  pub grows : Grows m.feed next.feed
+  pub runs : CommandRuns on_memory.cause m c next
+  pub now : IsNow d f start next
+  pub stands : StandsIn d next replica
+  pub text : IfOk result (λ text. text ≡ next.text)

@@ -1,20 +1,20 @@
 //! Answers a command: the text of its rows and of its reply. It takes the time of the replica's step, and time by the length of the text.
 
-ghost use Rattle.std.specs.Prelude.{◌≡◌, ◌≤◌, ◌++◌, None, Some, IfErr, IfOk, IsTrue, length, option_map};
+ghost use Rattle.std.specs.Prelude.{◌≡◌, ◌++◌, ◌&&◌, None, Some, IfErr, IfOk, IsTrue, option_map};
 ghost use Rattle.lt_command.specs.View.{view_command};
-ghost use Rattle.lt_engine.specs.State.{memory_of, state_of};
+ghost use Rattle.lt_engine.specs.State.{IsFed, StandsFor};
 ghost use Rattle.lt_engine.specs.Steps.{answer_of};
-ghost use Rattle.lt_model.specs.Fair.{Feed as Streams};
+ghost use Rattle.lt_model.specs.InMemory.{is_built};
 ghost use Rattle.lt_model.specs.Machine.{cat_of};
-ghost use Rattle.lt_model.specs.Outside.{BelongsTo, is_command};
-ghost use Rattle.lt_model.specs.Run.{result_text};
-ghost use Rattle.lt_pump.specs.Feeds.{FeedGoes};
+ghost use Rattle.lt_model.specs.Outside.{FeedGoes, is_command};
+ghost use Rattle.lt_model.specs.Run.{Moment, result_text};
+ghost use Rattle.lt_model.specs.Sound.{Session};
 ghost use Rattle.lt_reply.specs.View.{IsSpoken};
 ghost use Rattle.lt_schema.specs.View.{view_version};
-ghost use Rattle.lightning_cli.specs.Commands.{Answered, version_read};
+ghost use Rattle.lightning_cli.specs.Commands.{HasAnswered, IsNow, StandsIn, version_named, version_read};
 
 use crate::rows::{NoRows, RowTexts};
-use lt_command::Command;
+use lt_command::{Command, Query};
 use lt_core::{Blob, Memory};
 use lt_disk::Disk;
 use lt_engine::Replica;
@@ -23,7 +23,7 @@ use lt_reply::{Refusal, Reply, refusal_text, reply_text};
 use lt_schema::{Catalogue, SchemaVersion};
 use std::alloc::Global;
 
-/// Answers a command: the text of its rows and of its reply. An `Err` finds no memory for the text; the replica may have gone on.
+/// Answers a command: the text of its rows and of its reply. An `Err` finds no memory for the text, and the replica has gone on.
 pub fn answer<D: Disk, F: Feed>(
     alloc: Global,
     replica: &mut Replica,
@@ -31,14 +31,13 @@ pub fn answer<D: Disk, F: Feed>(
     disk: &mut D,
     feed: &mut F,
 ) -> Result<Blob, Memory>
-    requires streams { length (state_of replica.old).streams ≤ F.known feed.old }
-    requires command { IsTrue (is_command (view_command command.now)) }
-    ensures belongs { (f g : Streams) → F.told feed.old ≡ Some f → F.told feed.new ≡ Some g → BelongsTo f (state_of replica.old) (memory_of replica.old) → BelongsTo g (state_of replica.new) (memory_of replica.new) }
-    ensures answered { (f g : Streams) → F.told feed.old ≡ Some f → F.told feed.new ≡ Some g → BelongsTo f (state_of replica.old) (memory_of replica.old)
-        → IfOk result (Answered (F.faults feed.old, F.calls feed.old) (F.faults feed.new, F.calls feed.new) (state_of replica.old) (state_of replica.new) (view_command command.now) g) }
-    ensures known { length (state_of replica.new).streams ≤ F.known feed.new }
-    ensures disk { disk.new ≡ disk.old }
-    ensures feed { FeedGoes (F.told feed.old) (F.told feed.new) (F.known feed.old) (F.known feed.new) (F.faults feed.old, F.calls feed.old) (F.faults feed.new, F.calls feed.new) }
+    requires fed { IsFed replica.old (F.state feed.old) }
+    requires command { IsTrue (is_command (view_command command.now) && is_built (view_command command.now)) }
+    ensures answered { (start m : Moment)
+        → IsNow (D.state disk.old) (F.state feed.old) start m → StandsIn (D.state disk.old) m replica.old
+        → HasAnswered start m (view_command command.now) (D.state disk.new) (F.state feed.new) replica.new result }
+    ensures fed { IsFed replica.new (F.state feed.new) }
+    ensures goes { (disk.new ≡ disk.old) × FeedGoes (F.state feed.old) (F.state feed.new) }
 {
     let Ok(version) = version_of(replica.catalogue(), command) else {
         return refusal_text(alloc, &Refusal::Memory);
@@ -58,15 +57,15 @@ fn answer_by<D: Disk, F: Feed>(
     disk: &mut D,
     feed: &mut F,
 ) -> Result<Blob, Memory>
-    requires streams { length (state_of replica.old).streams ≤ F.known feed.old }
-    requires command { IsTrue (is_command (view_command command.now)) }
-    requires version { version_read (cat_of (state_of replica.old)) (view_command command.now) ≡ Some (view_version version) }
-    ensures belongs { (f g : Streams) → F.told feed.old ≡ Some f → F.told feed.new ≡ Some g → BelongsTo f (state_of replica.old) (memory_of replica.old) → BelongsTo g (state_of replica.new) (memory_of replica.new) }
-    ensures answered { (f g : Streams) → F.told feed.old ≡ Some f → F.told feed.new ≡ Some g → BelongsTo f (state_of replica.old) (memory_of replica.old)
-        → IfOk result (Answered (F.faults feed.old, F.calls feed.old) (F.faults feed.new, F.calls feed.new) (state_of replica.old) (state_of replica.new) (view_command command.now) g) }
-    ensures known { length (state_of replica.new).streams ≤ F.known feed.new }
-    ensures disk { disk.new ≡ disk.old }
-    ensures feed { FeedGoes (F.told feed.old) (F.told feed.new) (F.known feed.old) (F.known feed.new) (F.faults feed.old, F.calls feed.old) (F.faults feed.new, F.calls feed.new) }
+    requires fed { IsFed replica.old (F.state feed.old) }
+    requires command { IsTrue (is_command (view_command command.now) && is_built (view_command command.now)) }
+    requires version { (x : Session) → StandsFor replica.old x
+        → version_read (cat_of x.state) (view_command command.now) ≡ Some (view_version version) }
+    ensures answered { (start m : Moment)
+        → IsNow (D.state disk.old) (F.state feed.old) start m → StandsIn (D.state disk.old) m replica.old
+        → HasAnswered start m (view_command command.now) (D.state disk.new) (F.state feed.new) replica.new result }
+    ensures fed { IsFed replica.new (F.state feed.new) }
+    ensures goes { (disk.new ≡ disk.old) × FeedGoes (F.state feed.old) (F.state feed.new) }
 {
     let mut rows = RowTexts::new(alloc, version);
     let answer = replica.step(command, disk, feed, &mut rows);
@@ -81,15 +80,15 @@ fn answer_alone<D: Disk, F: Feed>(
     disk: &mut D,
     feed: &mut F,
 ) -> Result<Blob, Memory>
-    requires streams { length (state_of replica.old).streams ≤ F.known feed.old }
-    requires command { IsTrue (is_command (view_command command.now)) }
-    requires version { version_read (cat_of (state_of replica.old)) (view_command command.now) ≡ None }
-    ensures belongs { (f g : Streams) → F.told feed.old ≡ Some f → F.told feed.new ≡ Some g → BelongsTo f (state_of replica.old) (memory_of replica.old) → BelongsTo g (state_of replica.new) (memory_of replica.new) }
-    ensures answered { (f g : Streams) → F.told feed.old ≡ Some f → F.told feed.new ≡ Some g → BelongsTo f (state_of replica.old) (memory_of replica.old)
-        → IfOk result (Answered (F.faults feed.old, F.calls feed.old) (F.faults feed.new, F.calls feed.new) (state_of replica.old) (state_of replica.new) (view_command command.now) g) }
-    ensures known { length (state_of replica.new).streams ≤ F.known feed.new }
-    ensures disk { disk.new ≡ disk.old }
-    ensures feed { FeedGoes (F.told feed.old) (F.told feed.new) (F.known feed.old) (F.known feed.new) (F.faults feed.old, F.calls feed.old) (F.faults feed.new, F.calls feed.new) }
+    requires fed { IsFed replica.old (F.state feed.old) }
+    requires command { IsTrue (is_command (view_command command.now) && is_built (view_command command.now)) }
+    requires version { (x : Session) → StandsFor replica.old x
+        → version_read (cat_of x.state) (view_command command.now) ≡ None }
+    ensures answered { (start m : Moment)
+        → IsNow (D.state disk.old) (F.state feed.old) start m → StandsIn (D.state disk.old) m replica.old
+        → HasAnswered start m (view_command command.now) (D.state disk.new) (F.state feed.new) replica.new result }
+    ensures fed { IsFed replica.new (F.state feed.new) }
+    ensures goes { (disk.new ≡ disk.old) × FeedGoes (F.state feed.old) (F.state feed.new) }
 {
     let mut rows = NoRows;
     let answer = replica.step(command, disk, feed, &mut rows);
@@ -98,11 +97,21 @@ fn answer_alone<D: Disk, F: Feed>(
 
 /// The version that a command's rows are read by, where the catalogue has it.
 fn version_of(catalogue: &Catalogue, command: &Command) -> Result<Option<SchemaVersion>, Memory>
-    ensures { IfOk result (λ version. option_map view_version version ≡ version_read catalogue.now (view_command command.now)) }
+    ensures { IfOk result (λ version. option_map view_version version
+        ≡ version_read catalogue.now (view_command command.now)) }
 {
-    let Command::Scan(query) = command else {
-        return Ok(None);
-    };
+    match command {
+        Command::Scan(query) => version_for(catalogue, query),
+        Command::Page(query) => version_for(catalogue, query),
+        _ => Ok(None),
+    }
+}
+
+/// The version that a query names, where the catalogue has it.
+fn version_for(catalogue: &Catalogue, query: &Query) -> Result<Option<SchemaVersion>, Memory>
+    ensures { IfOk result (λ version. option_map view_version version
+        ≡ version_named catalogue.now query.now.table query.now.version) }
+{
     let Some(number) = catalogue.table(query.table.as_slice()) else {
         return Ok(None);
     };

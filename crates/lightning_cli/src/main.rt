@@ -20,8 +20,8 @@ use std::{env, io};
 fn main(rt: HostRuntime) -> ExitCode {
     let mut disk = FileDisk::new(rt);
     let mut feed = FileFeed::new(rt);
-    let mut script = StdSource::new(rt.stdin());
-    let mut out = StdSink::new(rt.stdout());
+    let mut script = StdSource::new(rt, rt.stdin());
+    let mut out = StdSink::new(rt, rt.stdout());
     let status = match words(&rt) {
         Ok(words) => run(
             rt.alloc(),
@@ -37,7 +37,7 @@ fn main(rt: HostRuntime) -> ExitCode {
     ExitCode::from(status)
 }
 
-/// The words behind the program's name. An `Err` is want of memory, or a word that is not UTF-8.
+/// The words behind the program's name. An `Err` is out of memory, or a word that is not UTF-8.
 fn words(rt: &HostRuntime) -> io::Result<Vec<String>> {
     let mut words = Vec::new(rt.alloc());
     for word in env::args(rt)?.skip(1) {

@@ -40,13 +40,12 @@ impl RowSink for RowTexts {
     ghost use Rattle.lt_reply.specs.Rows.{row_kinds};
     ghost use Rattle.lt_schema.specs.View.{view_version};
 
-    ghost told = { λ t. Some t.text };
-
-    ghost spell = { λ t. row_text (row_kinds (view_version t.version)) };
-
-    ghost rows = { λ t. None };
-
-    ghost faults = { λ t. 0 };
+    ghost state = { λ t. record {
+      spell = row_text (row_kinds (view_version t.version));
+      told = Some t.text;
+      rows = None;
+      faults = 0;
+    } };
 
     fn row(&mut self, row: &Row) -> Result<(), RowRefusal> {
         let alloc = self.text.allocator();
@@ -64,13 +63,7 @@ pub struct NoRows;
 impl RowSink for NoRows {
     ghost use Rattle.std.specs.Prelude.{None, []};
 
-    ghost told = { λ n. None };
-
-    ghost spell = { λ n row. [] };
-
-    ghost rows = { λ n. None };
-
-    ghost faults = { λ n. 0 };
+    ghost state = { λ n. record { spell = λ row. []; told = None; rows = None; faults = 0 } };
 
     fn row(&mut self, _: &Row) -> Result<(), RowRefusal> {
         Ok(())

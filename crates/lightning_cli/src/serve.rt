@@ -1,18 +1,17 @@
-//! A run of a script: reads it in large pieces, answers each line that a piece ends, and writes the replies after each piece, or sooner
-//! where they are long.
+//! A run of a script: reads it in pieces, and answers each line that a piece ends; each reply is written before the next line is read. A read
+//! gives what is there, so a pipe that waits for a reply before it sends its next line gets the reply.
 //!
-//! A run ends where the script does, where it is too long, or where a device fails or memory is lacking.
+//! A run ends where the script does, where it is too long, or where a device fails or memory runs out.
 
-ghost use Rattle.std.specs.Prelude.{IfSome, ◌≢◌, ◌≡◌, ◌+◌, ◌<◌, ◌≤◌, ◌^◌, ◌++◌, ◌⊎◌, [], ℕ, List, Some, length};
-ghost use Rattle.lt_model.specs.Disk.{Rose};
-ghost use Rattle.lt_model.specs.Machine.{State};
-ghost use Rattle.lt_model.specs.Outside.{BelongsTo, FailsAt};
-ghost use Rattle.lt_model.specs.Program.{Told};
-ghost use Rattle.lt_model.specs.Run.{max_script};
-ghost use Rattle.lt_engine.specs.State.{memory_of, state_of};
-ghost use Rattle.lt_pump.specs.Feeds.{FeedGoes};
-ghost use Rattle.lightning_cli.specs.Serving.{Goes, IsRunStatus, IsServing, IsTaken, SameDisk, Sees, Served};
-ghost use Rattle.lightning_cli.specs.Turns.{IfMore, IfOver};
+ghost use Rattle.std.specs.Prelude.{IfSome, ◌≡◌, ◌+◌, ◌<◌, ◌≤◌, ◌^◌, ◌++◌, ◌⊎◌, [], ℕ, List, Some, length};
+ghost use Rattle.std.specs.Io.KnownBytes.{Consumes};
+ghost use Rattle.lt_model.specs.Outside.{BytesGo, BytesState, FeedGoes};
+ghost use Rattle.lt_model.specs.Program.{Tells, Told, outside_of};
+ghost use Rattle.lt_model.specs.Run.{Moment, max_script};
+ghost use Rattle.lt_engine.specs.State.{IsFed};
+ghost use Rattle.lightning_cli.specs.Commands.{StandsIn};
+ghost use Rattle.lightning_cli.specs.Serving.{HasServed, IsRunStatus, IsServing, IsTaken, OutOver, ScriptOver, Unfailed};
+ghost use Rattle.lightning_cli.specs.Turns.{IfMore, IfOver, MatchTurn};
 
 use crate::output::finish;
 use crate::server::Server;
@@ -49,19 +48,16 @@ fn end<D: Disk, F: Feed, K: Sink>(
     feed: &mut F,
     out: &mut K,
 ) -> u8
-    requires known { length (state_of server.old.replica).streams ≤ F.known feed.old }
-    requires written { server.old.replies.items ≡ [] }
-    ensures served { (old mid now : Told) (s0 : State) (count : ℕ) → Sees (F.told feed.old) (Some mid.script) (K.held out.old) (F.faults feed.old, F.calls feed.old) (K.faults out.old) mid.counts.script mid
-        → Sees (F.told feed.new) (Some now.script) (K.held out.new) (F.faults feed.new, F.calls feed.new) (K.faults out.new) mid.counts.script now
-        → mid.script ≡ [] → now.script ≡ [] → SameDisk old.counts now.counts → count ≤ 2 ^ 32
-        → IsServing old mid s0 count server.old.replica server.old.replies.items server.old.line.items → Served old now s0 result }
-    ensures cause { result ≡ 4 → Rose (K.faults out.old) (K.faults out.new) }
-    ensures stops { result ≡ 4 → FailsAt (K.held out.new) (K.failed_at out.old) (K.failed_at out.new) }
-    ensures kept { result ≢ 4 → (K.faults out.new ≡ K.faults out.old) × (K.failed_at out.new ≡ K.failed_at out.old) }
+    requires fed { IsFed server.old.replica (F.state feed.old) }
+    ensures served { (m : Moment) (old : Told) (script : BytesState) (count : ℕ)
+        → script.told ≡ Some [] → count ≤ max_script
+        → IsServing m old (outside_of (D.state disk.old) (F.state feed.old) script (K.state out.old))
+        count [] server.old
+        → HasServed m old (outside_of (D.state disk.new) (F.state feed.new) script (K.state out.new)) result }
+    ensures over { OutOver (K.state out.old) (K.state out.new) result }
     ensures statuses { (result ≡ 0) ⊎ (result ≡ 4) ⊎ (result ≡ 10) }
-    ensures disk { disk.new ≡ disk.old }
-    ensures feed { FeedGoes (F.told feed.old) (F.told feed.new) (F.known feed.old) (F.known feed.new) (F.faults feed.old, F.calls feed.old) (F.faults feed.new, F.calls feed.new) }
-    ensures out { Goes (K.held out.old) (K.held out.new) (K.faults out.old) (K.faults out.new) }
+    ensures goes { (disk.new ≡ disk.old) × FeedGoes (F.state feed.old) (F.state feed.new)
+        × BytesGo (K.state out.old) (K.state out.new) }
 {
     if server.answer(alloc, disk, feed).is_err() {
         return 10;
@@ -78,19 +74,17 @@ fn cut<D: Disk, F: Feed, K: Sink>(
     out: &mut K,
     bytes: &[u8],
 ) -> u8
-    requires known { length (state_of server.old.replica).streams ≤ F.known feed.old }
+    requires fed { IsFed server.old.replica (F.state feed.old) }
     requires written { server.old.replies.items ≡ [] }
-    ensures served { (old mid now : Told) (s0 : State) (count : ℕ) (more : List ℕ) → Sees (F.told feed.old) (Some mid.script) (K.held out.old) (F.faults feed.old, F.calls feed.old) (K.faults out.old) mid.counts.script mid
-        → Sees (F.told feed.new) (Some now.script) (K.held out.new) (F.faults feed.new, F.calls feed.new) (K.faults out.new) mid.counts.script now
-        → mid.script ≡ (bytes.now ++ more) ++ now.script → count + length bytes.now ≡ 2 ^ 32 → 0 < length more → SameDisk old.counts now.counts
-        → IsServing old mid s0 count server.old.replica server.old.replies.items server.old.line.items → Served old now s0 result }
-    ensures cause { result ≡ 4 → Rose (K.faults out.old) (K.faults out.new) }
-    ensures stops { result ≡ 4 → FailsAt (K.held out.new) (K.failed_at out.old) (K.failed_at out.new) }
-    ensures kept { result ≢ 4 → (K.faults out.new ≡ K.faults out.old) × (K.failed_at out.new ≡ K.failed_at out.old) }
+    ensures served { (m : Moment) (old : Told) (script : BytesState) (count : ℕ) (more : List ℕ)
+        → count + length bytes.now ≡ max_script → 0 < length more
+        → IsServing m old (outside_of (D.state disk.old) (F.state feed.old) script (K.state out.old))
+        count (bytes.now ++ more) server.old
+        → HasServed m old (outside_of (D.state disk.new) (F.state feed.new) script (K.state out.new)) result }
+    ensures over { OutOver (K.state out.old) (K.state out.new) result }
     ensures statuses { (result ≡ 4) ⊎ (result ≡ 9) ⊎ (result ≡ 10) }
-    ensures disk { disk.new ≡ disk.old }
-    ensures feed { FeedGoes (F.told feed.old) (F.told feed.new) (F.known feed.old) (F.known feed.new) (F.faults feed.old, F.calls feed.old) (F.faults feed.new, F.calls feed.new) }
-    ensures out { Goes (K.held out.old) (K.held out.new) (K.faults out.old) (K.faults out.new) }
+    ensures goes { (disk.new ≡ disk.old) × FeedGoes (F.state feed.old) (F.state feed.new)
+        × BytesGo (K.state out.old) (K.state out.new) }
 {
     match server.take(alloc, disk, feed, out, bytes) {
         Ok(()) => finish(out, TOO_LONG, 9),
@@ -107,25 +101,22 @@ fn digest<D: Disk, F: Feed, K: Sink>(
     out: &mut K,
     piece: &[u8],
 ) -> Turn
-    requires known { length (state_of server.old.replica).streams ≤ F.known feed.old }
-    requires written { server.old.replies.items ≡ [] }
-    requires some { 0 < length piece.now }
-    ensures more { IfMore result (λ n. (n ≡ length piece.now) × (server.new.replies.items ≡ []) × (K.faults out.new ≡ K.faults out.old) × (K.failed_at out.new ≡ K.failed_at out.old)) }
-    ensures goes_on { (old mid now : Told) (s0 : State) (count : ℕ) → Sees (F.told feed.old) (Some mid.script) (K.held out.old) (F.faults feed.old, F.calls feed.old) (K.faults out.old) mid.counts.script mid
-        → Sees (F.told feed.new) (Some now.script) (K.held out.new) (F.faults feed.new, F.calls feed.new) (K.faults out.new) mid.counts.script now
-        → mid.script ≡ piece.now ++ now.script → IsServing old mid s0 count server.old.replica server.old.replies.items server.old.line.items
-        → IfMore result (λ n. IsServing old now s0 (count + n) server.new.replica [] server.new.line.items) }
-    ensures served { (old mid now : Told) (s0 : State) (count : ℕ) → Sees (F.told feed.old) (Some mid.script) (K.held out.old) (F.faults feed.old, F.calls feed.old) (K.faults out.old) mid.counts.script mid
-        → Sees (F.told feed.new) (Some now.script) (K.held out.new) (F.faults feed.new, F.calls feed.new) (K.faults out.new) mid.counts.script now
-        → mid.script ≡ piece.now ++ now.script → count + length piece.now ≤ 2 ^ 32 → SameDisk old.counts now.counts → IsServing old mid s0 count server.old.replica server.old.replies.items server.old.line.items → IfOver result (Served old now s0) }
-    ensures cause { IfOver result (λ status. status ≡ 4 → Rose (K.faults out.old) (K.faults out.new)) }
-    ensures stops { IfOver result (λ status. status ≡ 4 → FailsAt (K.held out.new) (K.failed_at out.old) (K.failed_at out.new)) }
-    ensures kept { IfOver result (λ status. status ≢ 4 → (K.faults out.new ≡ K.faults out.old) × (K.failed_at out.new ≡ K.failed_at out.old)) }
+    requires fed { IsFed server.old.replica (F.state feed.old) }
+    ensures serves { (m : Moment) (old : Told) (script : BytesState) (count : ℕ)
+        → count + length piece.now ≤ max_script
+        → IsServing m old (outside_of (D.state disk.old) (F.state feed.old) script (K.state out.old))
+        count piece.now server.old
+        → MatchTurn result
+        (λ n. IsServing m old (outside_of (D.state disk.new) (F.state feed.new) script (K.state out.new))
+        (count + n) [] server.new)
+        (HasServed m old (outside_of (D.state disk.new) (F.state feed.new) script (K.state out.new))) }
+    ensures more { IfMore result (λ n. (n ≡ length piece.now) × (server.new.replies.items ≡ [])
+        × Unfailed (K.state out.old) (K.state out.new)) }
+    ensures over { IfOver result (OutOver (K.state out.old) (K.state out.new)) }
     ensures statuses { IfOver result (λ status. (status ≡ 4) ⊎ (status ≡ 10)) }
-    ensures known { IfMore result (λ n. length (state_of server.new.replica).streams ≤ F.known feed.new) }
-    ensures disk { disk.new ≡ disk.old }
-    ensures feed { FeedGoes (F.told feed.old) (F.told feed.new) (F.known feed.old) (F.known feed.new) (F.faults feed.old, F.calls feed.old) (F.faults feed.new, F.calls feed.new) }
-    ensures out { Goes (K.held out.old) (K.held out.new) (K.faults out.old) (K.faults out.new) }
+    ensures fed { IfMore result (λ n. IsFed server.new.replica (F.state feed.new)) }
+    ensures goes { (disk.new ≡ disk.old) × FeedGoes (F.state feed.old) (F.state feed.new)
+        × BytesGo (K.state out.old) (K.state out.new) }
 {
     match server.take(alloc, disk, feed, out, piece) {
         Ok(()) => Turn::More(piece.len() as u64),
@@ -143,32 +134,28 @@ fn take_piece<D: Disk, F: Feed, S: Source, K: Sink>(
     out: &mut K,
     count: u64,
 ) -> Turn
-    requires known { length (state_of server.old.replica).streams ≤ F.known feed.old }
+    requires fed { IsFed server.old.replica (F.state feed.old) }
     requires written { server.old.replies.items ≡ [] }
-    requires short { count ≤ 2 ^ 32 }
-    ensures more { IfMore result (λ n. (0 < n) × (count + n ≤ 2 ^ 32) × (server.new.replies.items ≡ [])) }
-    ensures left { IfMore result (IsTaken (S.left script.old) (S.left script.new)) }
-    ensures unfailed { IfMore result (λ n. (K.faults out.new ≡ K.faults out.old) × (S.faults script.new ≡ S.faults script.old)) }
-    ensures unstopped { IfMore result (λ n. (K.failed_at out.new ≡ K.failed_at out.old) × (S.failed_at script.new ≡ S.failed_at script.old)) }
-    ensures goes_on { (old mid now : Told) (s0 : State) → Sees (F.told feed.old) (S.left script.old) (K.held out.old) (F.faults feed.old, F.calls feed.old) (K.faults out.old) (S.faults script.old) mid
-        → Sees (F.told feed.new) (S.left script.new) (K.held out.new) (F.faults feed.new, F.calls feed.new) (K.faults out.new) (S.faults script.new) now
-        → IsServing old mid s0 count server.old.replica server.old.replies.items server.old.line.items → IfMore result (λ n. IsServing old now s0 (count + n) server.new.replica [] server.new.line.items) }
-    ensures served { (old mid now : Told) (s0 : State) → Sees (F.told feed.old) (S.left script.old) (K.held out.old) (F.faults feed.old, F.calls feed.old) (K.faults out.old) (S.faults script.old) mid
-        → Sees (F.told feed.new) (S.left script.new) (K.held out.new) (F.faults feed.new, F.calls feed.new) (K.faults out.new) (S.faults script.new) now
-        → SameDisk old.counts now.counts → IsServing old mid s0 count server.old.replica server.old.replies.items server.old.line.items → IfOver result (Served old now s0) }
-    ensures script_fault { IfOver result (λ status. status ≡ 3 → Rose (S.faults script.old) (S.faults script.new)) }
-    ensures out_fault { IfOver result (λ status. status ≡ 4 → Rose (K.faults out.old) (K.faults out.new)) }
-    ensures script_stops { IfOver result (λ status. ((status ≢ 3) × (S.faults script.new ≡ S.faults script.old) × (S.failed_at script.new ≡ S.failed_at script.old)) ⊎ FailsAt (S.left script.new) (S.failed_at script.old) (S.failed_at script.new)) }
-    ensures out_stops { IfOver result (λ status. status ≡ 4 → FailsAt (K.held out.new) (K.failed_at out.old) (K.failed_at out.new)) }
-    ensures too_long { IfOver result (λ status. status ≡ 9 → IfSome (S.left script.old) (λ s. 2 ^ 32 < count + length s)) }
-    ensures script_kept { IfOver result (λ status. status ≢ 3 → status ≢ 4 → S.faults script.new ≡ S.faults script.old) }
-    ensures out_kept { IfOver result (λ status. status ≢ 4 → K.faults out.new ≡ K.faults out.old) }
+    requires short { count ≤ max_script }
+    ensures serves { (m : Moment) (old : Told)
+        → IsServing m old (outside_of (D.state disk.old) (F.state feed.old) (S.state script.old) (K.state out.old))
+        count [] server.old
+        → MatchTurn result
+        (λ n. IsServing m old (outside_of (D.state disk.new) (F.state feed.new) (S.state script.new) (K.state out.new))
+        (count + n) [] server.new)
+        (HasServed m old (outside_of (D.state disk.new) (F.state feed.new) (S.state script.new) (K.state out.new))) }
+    ensures more { IfMore result (λ n. (0 < n) × (count + n ≤ max_script) × (server.new.replies.items ≡ [])) }
+    ensures taken { IfMore result (IsTaken (S.state script.old).told (S.state script.new).told) }
+    ensures unfailed { IfMore result (λ n. Unfailed (S.state script.old) (S.state script.new)
+        × Unfailed (K.state out.old) (K.state out.new)) }
+    ensures script_over { IfOver result (ScriptOver (S.state script.old) (S.state script.new)) }
+    ensures out_over { IfOver result (OutOver (K.state out.old) (K.state out.new)) }
+    ensures too_long { IfOver result (λ status. status ≡ 9
+        → IfSome (S.state script.old).told (λ s. max_script < count + length s)) }
     ensures statuses { IfOver result IsRunStatus }
-    ensures known { IfMore result (λ n. length (state_of server.new.replica).streams ≤ F.known feed.new) }
-    ensures disk { disk.new ≡ disk.old }
-    ensures feed { FeedGoes (F.told feed.old) (F.told feed.new) (F.known feed.old) (F.known feed.new) (F.faults feed.old, F.calls feed.old) (F.faults feed.new, F.calls feed.new) }
-    ensures script { Goes (S.left script.old) (S.left script.new) (S.faults script.old) (S.faults script.new) }
-    ensures out { Goes (K.held out.old) (K.held out.new) (K.faults out.old) (K.faults out.new) }
+    ensures fed { IfMore result (λ n. IsFed server.new.replica (F.state feed.new)) }
+    ensures goes { (disk.new ≡ disk.old) × FeedGoes (F.state feed.old) (F.state feed.new)
+        × BytesGo (S.state script.old) (S.state script.new) × BytesGo (K.state out.old) (K.state out.new) }
 {
     let mut buffer = [0u8; PIECE];
     let n = match script.read(&mut buffer) {
@@ -194,22 +181,18 @@ pub fn serve<D: Disk, F: Feed, S: Source, K: Sink>(
     script: &mut S,
     out: &mut K,
 ) -> u8
-    requires known { length (state_of replica).streams ≤ F.known feed.old }
-    ensures served { (old now : Told) → Sees (F.told feed.old) (S.left script.old) (K.held out.old) (F.faults feed.old, F.calls feed.old) (K.faults out.old) (S.faults script.old) old
-        → Sees (F.told feed.new) (S.left script.new) (K.held out.new) (F.faults feed.new, F.calls feed.new) (K.faults out.new) (S.faults script.new) now
-        → SameDisk old.counts now.counts → BelongsTo old.feed (state_of replica) (memory_of replica) → Served old now (state_of replica) result }
-    ensures script_fault { result ≡ 3 → Rose (S.faults script.old) (S.faults script.new) }
-    ensures out_fault { result ≡ 4 → Rose (K.faults out.old) (K.faults out.new) }
-    ensures script_stops { ((result ≢ 3) × (S.faults script.new ≡ S.faults script.old)) ⊎ FailsAt (S.left script.new) (S.failed_at script.old) (S.failed_at script.new) }
-    ensures out_stops { result ≡ 4 → FailsAt (K.held out.new) (K.failed_at out.old) (K.failed_at out.new) }
-    ensures too_long { result ≡ 9 → IfSome (S.left script.old) (λ s. max_script < length s) }
-    ensures script_kept { result ≢ 3 → result ≢ 4 → S.faults script.new ≡ S.faults script.old }
-    ensures out_kept { result ≢ 4 → K.faults out.new ≡ K.faults out.old }
+    requires fed { IsFed replica (F.state feed.old) }
+    ensures served { (m : Moment) (old : Told)
+        → Tells (outside_of (D.state disk.old) (F.state feed.old) (S.state script.old) (K.state out.old)) old
+        → m.feed ≡ old.feed → m.counts ≡ old.counts → StandsIn (D.state disk.old) m replica
+        → HasServed m old (outside_of (D.state disk.new) (F.state feed.new) (S.state script.new) (K.state out.new))
+        result }
+    ensures script_over { ScriptOver (S.state script.old) (S.state script.new) result }
+    ensures out_over { OutOver (K.state out.old) (K.state out.new) result }
+    ensures too_long { result ≡ 9 → IfSome (S.state script.old).told (λ s. max_script < length s) }
     ensures statuses { IsRunStatus result }
-    ensures disk { disk.new ≡ disk.old }
-    ensures feed { FeedGoes (F.told feed.old) (F.told feed.new) (F.known feed.old) (F.known feed.new) (F.faults feed.old, F.calls feed.old) (F.faults feed.new, F.calls feed.new) }
-    ensures script { Goes (S.left script.old) (S.left script.new) (S.faults script.old) (S.faults script.new) }
-    ensures out { Goes (K.held out.old) (K.held out.new) (K.faults out.old) (K.faults out.new) }
+    ensures goes { (disk.new ≡ disk.old) × FeedGoes (F.state feed.old) (F.state feed.new)
+        × BytesGo (S.state script.old) (S.state script.new) × BytesGo (K.state out.old) (K.state out.new) }
 {
     let mut server = Server::new(alloc, replica);
     let mut count = 0;
@@ -219,5 +202,5 @@ pub fn serve<D: Disk, F: Feed, S: Source, K: Sink>(
             Turn::Over(status) => return status,
         }
     }
-    10
+    unreachable!()
 }

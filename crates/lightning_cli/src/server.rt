@@ -1,19 +1,15 @@
 //! A run of a script: takes its bytes as they come, and collects the replies to the lines that they end.
 //!
-//! Each byte is looked at once. Of a line no more is kept than tells whether it is too long, and of the replies no more than 64 KiB and one
-//! line's answer.
+//! Each byte is looked at once. Of a line no more is kept than tells whether it is too long, and of the replies no more than one
+//! line's answer, which is written before the next line is read.
 
-ghost use Rattle.std.specs.Prelude.{◌≡◌, ◌≤◌, ◌++◌, ◌∷◌, [], ℕ, List, Some, IsErrOf, OnOk, OnErr, length};
+ghost use Rattle.std.specs.Prelude.{◌≡◌, ◌++◌, ◌∷◌, [], ℕ, IfErr, List, MatchResult, OnErr, OnOk};
 ghost use Rattle.std.specs.Io.KnownBytes.{Appends};
-ghost use Rattle.lt_model.specs.Disk.{HasCause, Rose};
-ghost use Rattle.lt_model.specs.Outside.{FailsAt, KeepsFirstFault, StaysTold};
-ghost use Rattle.lt_model.specs.Fair.{Feed as Streams};
-ghost use Rattle.lt_model.specs.Machine.{State};
-ghost use Rattle.lt_model.specs.Run.{Counts};
-ghost use Rattle.lt_engine.specs.State.{state_of};
-ghost use Rattle.lt_pump.specs.Feeds.{FeedGoes};
-ghost use Rattle.lightning_cli.specs.Serving.{AppendsFront, Goes, HasRun, Stands, WritesSome};
+ghost use Rattle.lt_model.specs.Outside.{BytesGo, FeedGoes};
+ghost use Rattle.lt_model.specs.Run.{Moment};
+ghost use Rattle.lt_engine.specs.State.{IsFed};
 ghost use Rattle.lt_script.specs.Lines.{kept_of};
+ghost use Rattle.lightning_cli.specs.Serving.{AnswersLine, AppendsFront, Failed, HasRun, HasRunSome, OutOver, Stands, Unfailed, WritesSome};
 ghost use Rattle.lightning_cli.specs.Turns.{TakesPiece, take_status};
 ghost use Rattle.lightning_cli.specs.declared.server.TakeFault.TheVariants as faults;
 
@@ -29,9 +25,6 @@ use std::alloc::Global;
 const LINE_FEED: u8 = b'\n';
 
 const BAD_LINE: &[u8] = b"refused E1 BadLine\n";
-
-/// How much of the replies is collected before it is written, in bytes.
-const FULL: usize = 65536;
 
 /// Why a run ends within a piece of its script.
 #[derive(Clone, Copy, Debug, PartialEq, Eq)]
@@ -107,37 +100,39 @@ impl Server {
         out: &mut K,
         bytes: &[u8],
     ) -> Result<(), TakeFault>
-        requires known { length (state_of self.old.replica).streams ≤ F.known feed.old }
-        ensures taken { (f g f0 : Streams) (n0 : Counts) (s0 : State) (before written : List ℕ) → F.told feed.old ≡ Some f → F.told feed.new ≡ Some g
-            → Stands f0 n0 s0 before written f (F.faults feed.old, F.calls feed.old) self.old.replica self.old.replies.items self.old.line.items
-            → TakesPiece f0 n0 s0 (before ++ bytes.now) written g (F.faults feed.new, F.calls feed.new) (K.held out.old) (K.held out.new) self.new result }
+        requires fed { IsFed self.old.replica (F.state feed.old) }
+        ensures taken { (m : Moment) (before written : List ℕ)
+            → Stands m before written (D.state disk.old) (F.state feed.old) self.old
+            → TakesPiece m (before ++ bytes.now) written (D.state disk.new) (F.state feed.new) (K.state out.old).told
+            (K.state out.new).told self.new result }
         ensures written { OnOk result (self.new.replies.items ≡ []) }
-        ensures kept { OnOk result ((K.faults out.new ≡ K.faults out.old) × (K.failed_at out.new ≡ K.failed_at out.old)) }
-        ensures memory { IsErrOf result TakeFault.Memory → (K.faults out.new ≡ K.faults out.old) × (K.failed_at out.new ≡ K.failed_at out.old) }
-        ensures sink { IsErrOf result TakeFault.Sink → Rose (K.faults out.old) (K.faults out.new) × FailsAt (K.held out.new) (K.failed_at out.old) (K.failed_at out.new) }
-        ensures known { length (state_of self.new.replica).streams ≤ F.known feed.new }
-        ensures disk { disk.new ≡ disk.old }
-        ensures feed { FeedGoes (F.told feed.old) (F.told feed.new) (F.known feed.old) (F.known feed.new) (F.faults feed.old, F.calls feed.old) (F.faults feed.new, F.calls feed.new) }
-        ensures out { Goes (K.held out.old) (K.held out.new) (K.faults out.old) (K.faults out.new) }
+        ensures unfailed { OnOk result (Unfailed (K.state out.old) (K.state out.new)) }
+        ensures over { IfErr result (λ e. OutOver (K.state out.old) (K.state out.new) (take_status e)) }
+        ensures fed { IsFed self.new.replica (F.state feed.new) }
+        ensures goes { (disk.new ≡ disk.old) × FeedGoes (F.state feed.old) (F.state feed.new)
+            × BytesGo (K.state out.old) (K.state out.new) }
     {
         for byte in bytes {
             self.take_byte(alloc, disk, feed, *byte)?;
-            self.flush_full(out)?;
+            self.flush_ended(out, *byte)?;
         }
         self.flush(out)?;
         Ok(())
     }
 
-    /// Writes what was answered where that is much.
-    fn flush_full<K: Sink>(&mut self, out: &mut K) -> Result<(), WriteFault>
-        ensures some { OnOk result (WritesSome (K.held out.old) (K.held out.new) self.old.replies.items self.new.replies.items) }
-        ensures front { OnErr result (AppendsFront (K.held out.old) (K.held out.new) self.old.replies.items) }
+    /// Writes what was answered where the byte that was taken ends a line: a reply is written before the next line is read.
+    fn flush_ended<K: Sink>(&mut self, out: &mut K, byte: u8) -> Result<(), WriteFault>
+        ensures some { OnOk result (WritesSome (K.state out.old).told (K.state out.new).told self.old.replies.items
+            self.new.replies.items) }
+        ensures at_once { OnOk result (byte ≡ 10 → self.new.replies.items ≡ []) }
+        ensures unfailed { OnOk result (Unfailed (K.state out.old) (K.state out.new)) }
+        ensures front { OnErr result (AppendsFront (K.state out.old).told (K.state out.new).told
+            self.old.replies.items) }
+        ensures failed { OnErr result (Failed (K.state out.old) (K.state out.new)) }
         ensures rest { (self.new.replica ≡ self.old.replica) × (self.new.line.items ≡ self.old.line.items) }
-        ensures stays { StaysTold (K.held out.old) (K.held out.new) }
-        ensures cause { HasCause (K.faults out.old) (K.faults out.new) result }
-        ensures first_fault { KeepsFirstFault (K.held out.new) (K.failed_at out.old) (K.failed_at out.new) result }
+        ensures goes { BytesGo (K.state out.old) (K.state out.new) }
     {
-        if self.replies.len() < FULL {
+        if byte != LINE_FEED {
             return Ok(());
         }
         self.flush(out)
@@ -145,12 +140,14 @@ impl Server {
 
     /// Writes what was answered. After a fault some first bytes of it may have been written.
     fn flush<K: Sink>(&mut self, out: &mut K) -> Result<(), WriteFault>
-        ensures all { OnOk result (Appends (K.held out.old) (K.held out.new) self.old.replies.items × (self.new.replies.items ≡ [])) }
-        ensures front { OnErr result (AppendsFront (K.held out.old) (K.held out.new) self.old.replies.items) }
+        ensures all { OnOk result (Appends (K.state out.old).told (K.state out.new).told self.old.replies.items
+            × (self.new.replies.items ≡ [])) }
+        ensures unfailed { OnOk result (Unfailed (K.state out.old) (K.state out.new)) }
+        ensures front { OnErr result (AppendsFront (K.state out.old).told (K.state out.new).told
+            self.old.replies.items) }
+        ensures failed { OnErr result (Failed (K.state out.old) (K.state out.new)) }
         ensures rest { (self.new.replica ≡ self.old.replica) × (self.new.line.items ≡ self.old.line.items) }
-        ensures stays { StaysTold (K.held out.old) (K.held out.new) }
-        ensures cause { HasCause (K.faults out.old) (K.faults out.new) result }
-        ensures first_fault { KeepsFirstFault (K.held out.new) (K.failed_at out.old) (K.failed_at out.new) result }
+        ensures goes { BytesGo (K.state out.old) (K.state out.new) }
     {
         put(out, self.replies.as_slice())?;
         self.replies.clear();
@@ -165,13 +162,14 @@ impl Server {
         feed: &mut F,
         byte: u8,
     ) -> Result<(), Memory>
-        requires known { length (state_of self.old.replica).streams ≤ F.known feed.old }
-        ensures ok { (f g f0 : Streams) (n0 : Counts) (s0 : State) (before written : List ℕ) → F.told feed.old ≡ Some f → F.told feed.new ≡ Some g
-            → Stands f0 n0 s0 before written f (F.faults feed.old, F.calls feed.old) self.old.replica self.old.replies.items self.old.line.items
-            → OnOk result (Stands f0 n0 s0 (before ++ byte ∷ []) written g (F.faults feed.new, F.calls feed.new) self.new.replica self.new.replies.items self.new.line.items) }
-        ensures known { length (state_of self.new.replica).streams ≤ F.known feed.new }
-        ensures disk { disk.new ≡ disk.old }
-        ensures feed { FeedGoes (F.told feed.old) (F.told feed.new) (F.known feed.old) (F.known feed.new) (F.faults feed.old, F.calls feed.old) (F.faults feed.new, F.calls feed.new) }
+        requires fed { IsFed self.old.replica (F.state feed.old) }
+        ensures taken { (m : Moment) (before written : List ℕ)
+            → Stands m before written (D.state disk.old) (F.state feed.old) self.old
+            → MatchResult result
+            (λ _. Stands m (before ++ byte ∷ []) written (D.state disk.new) (F.state feed.new) self.new)
+            (λ _. HasRunSome m (before ++ byte ∷ []) written (D.state disk.new) (F.state feed.new)) }
+        ensures fed { IsFed self.new.replica (F.state feed.new) }
+        ensures goes { (disk.new ≡ disk.old) × FeedGoes (F.state feed.old) (F.state feed.new) }
     {
         if byte == LINE_FEED {
             self.answer(alloc, disk, feed)?;
@@ -191,14 +189,14 @@ impl Server {
         disk: &mut D,
         feed: &mut F,
     ) -> Result<(), Memory>
-        requires known { length (state_of self.old.replica).streams ≤ F.known feed.old }
-        ensures ok { (f g f0 : Streams) (n0 : Counts) (s0 : State) (lines : List (List ℕ)) (written line : List ℕ) → F.told feed.old ≡ Some f → F.told feed.new ≡ Some g → self.old.line.items ≡ kept_of line
-            → HasRun f0 n0 s0 lines written f (F.faults feed.old, F.calls feed.old) self.old.replica self.old.replies.items
-            → OnOk result (HasRun f0 n0 s0 (lines ++ line ∷ []) written g (F.faults feed.new, F.calls feed.new) self.new.replica self.new.replies.items) }
+        requires fed { IsFed self.old.replica (F.state feed.old) }
+        ensures answered { (m : Moment) (lines : List (List ℕ)) (written line : List ℕ)
+            → self.old.line.items ≡ kept_of line
+            → HasRun m lines written (D.state disk.old) (F.state feed.old) self.old.replica self.old.replies.items
+            → AnswersLine m lines line written (D.state disk.new) (F.state feed.new) self.new result }
         ensures line { self.new.line.items ≡ self.old.line.items }
-        ensures known { length (state_of self.new.replica).streams ≤ F.known feed.new }
-        ensures disk { disk.new ≡ disk.old }
-        ensures feed { FeedGoes (F.told feed.old) (F.told feed.new) (F.known feed.old) (F.known feed.new) (F.faults feed.old, F.calls feed.old) (F.faults feed.new, F.calls feed.new) }
+        ensures fed { IsFed self.new.replica (F.state feed.new) }
+        ensures goes { (disk.new ≡ disk.old) × FeedGoes (F.state feed.old) (F.state feed.new) }
     {
         match read_line(alloc, self.line.as_slice())? {
             Line::Skipped => Ok(()),

@@ -220,7 +220,7 @@ fn worked_streams(rt: HostRuntime) -> Result<(), Fail> {
 #[test]
 fn each_call_fails_in_turn(rt: HostRuntime) -> Result<(), Fail> {
     // The feed is asked for its streams and for the header, and then read twice by the pump.
-    let rows: [(&str, &[u8], [&[u64]; 3], u8, &[u8]); 10] = [
+    let rows: [(&str, &[u8], [&[u64]; 3], u8, &[u8]); 11] = [
         ("run", SCRIPT, [&[1], &[], &[]], 7, b"stopped 7 FeedFault\n"),
         ("run", SCRIPT, [&[2], &[], &[]], 7, b"stopped 7 FeedFault\n"),
         (
@@ -246,7 +246,14 @@ fn each_call_fails_in_turn(rt: HostRuntime) -> Result<(), Fail> {
         ),
         ("run", SCRIPT, [&[], &[2], &[]], 3, CUT),
         ("run", SCRIPT, [&[], &[], &[1]], 4, b""),
-        ("run", SCRIPT, [&[], &[2], &[2]], 4, REPLIES),
+        (
+            "run",
+            SCRIPT,
+            [&[], &[], &[3]],
+            4,
+            b"ok schema t 1\nok pump 0 records 2 offset 84 checkpoint 7 stop End\n",
+        ),
+        ("run", SCRIPT, [&[], &[2], &[6]], 4, REPLIES),
         ("run", SCRIPT, [&[1], &[], &[1]], 4, b""),
         ("gen", SCRIPT, [&[], &[], &[1]], 4, b""),
     ];

@@ -5,4 +5,6 @@ mod command;
 #[cfg(test)]
 mod tests;
 
-pub use command::{Command, Query};
+pub use command::{Command, Mode, Query};
+pub use lt_core::{Blob, Ids, Text};
+pub use lt_pred::{Literals, NameList, Pred};

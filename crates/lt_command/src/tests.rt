@@ -1,44 +1,24 @@
-//! What each command stands for.
+//! What commands and queries stand for.
 
-ghost use Rattle.std.specs.Prelude.{◌≡◌, ◌∷◌, [], None, codes, pos, IfOk};
-ghost use Rattle.lt_model.specs.Query.{int_literal};
-ghost use Rattle.lt_model.specs.Script.{do_pump, do_retire, do_scan, do_schema, do_split, do_status, plain_query};
-ghost use Rattle.lt_command.specs.View.{view_command};
+ghost use Rattle.std.specs.Prelude.{◌≡◌, ◌∷◌, [], None, codes, IfOk};
+ghost use Rattle.lt_model.specs.Query.{all_rows, negated};
+ghost use Rattle.lt_model.specs.Script.{do_compact, do_scan, minor, plain_query};
+ghost use Rattle.lt_command.specs.View.{view_command, view_query};
 
 use super::*;
-use lt_core::{Blob, List, Text};
-use lt_pred::Literal;
+use lt_pred::{Boxed, List};
 use std::test::Fail;
 
-fn schema(rt: HostRuntime) -> Result<Command, Fail>
-    ensures { IfOk result (λ c. view_command c ≡ do_schema (codes "{}")) }
+fn compact(rt: HostRuntime) -> Result<Command, Fail>
+    ensures { IfOk result (λ c. view_command c ≡ do_compact 2 (minor (0 ∷ 7 ∷ []))) }
 {
-    Ok(Command::Schema(Blob::from_slice(rt.alloc(), b"{}")?))
-}
-
-fn retire(rt: HostRuntime) -> Result<Command, Fail>
-    ensures { IfOk result (λ c. view_command c ≡ do_retire (codes "t") 1) }
-{
-    let table = Text::from_slice(rt.alloc(), b"t")?;
-    Ok(Command::Retire { table, version: 1 })
-}
-
-fn pump() -> Command
-    ensures { view_command result ≡ do_pump 2 10 }
-{
-    Command::Pump {
-        stream: 2,
-        count: 10,
-    }
-}
-
-fn split(rt: HostRuntime) -> Result<Command, Fail>
-    ensures { IfOk result (λ c. view_command c ≡ do_split (codes "t") (int_literal (pos 50) ∷ [])) }
-{
-    let table = Text::from_slice(rt.alloc(), b"t")?;
-    let mut key = List::new(rt.alloc());
-    key.push(Literal::Int(50))?;
-    Ok(Command::Split { table, key })
+    let mut ids = List::new(rt.alloc());
+    ids.push(0)?;
+    ids.push(7)?;
+    Ok(Command::Compact {
+        part: 2,
+        mode: Mode::Minor(ids),
+    })
 }
 
 fn scan(rt: HostRuntime) -> Result<Command, Fail>
@@ -49,23 +29,40 @@ fn scan(rt: HostRuntime) -> Result<Command, Fail>
         table,
         version: 1,
         at: 5,
+        columns: None,
+        from: None,
+        to: None,
+        after: None,
+        limit: None,
+        filter: Pred::All,
     }))
 }
 
-fn status() -> Command
-    ensures { view_command result ≡ do_status }
+fn filtered(rt: HostRuntime) -> Result<Query, Fail>
+    ensures { IfOk result (λ q. view_query q
+        ≡ record (plain_query (codes "t") 1 5 None) { filter = negated all_rows }) }
 {
-    Command::Status
+    let alloc = rt.alloc();
+    let filter = Pred::Not(Boxed::new(alloc, Pred::All)?);
+    let table = Text::from_slice(alloc, b"t")?;
+    Ok(Query {
+        table,
+        version: 1,
+        at: 5,
+        columns: None,
+        from: None,
+        to: None,
+        after: None,
+        limit: None,
+        filter,
+    })
 }
 
-/// Each command is made: none is refused for want of memory.
+/// None is refused because memory ran out.
 #[test]
-fn each_command_is_made(rt: HostRuntime) -> Result<(), Fail> {
-    assert!(rt; matches!(schema(rt)?, Command::Schema(_)));
-    assert!(rt; matches!(retire(rt)?, Command::Retire { .. }));
-    assert!(rt; matches!(pump(), Command::Pump { .. }));
-    assert!(rt; matches!(split(rt)?, Command::Split { .. }));
+fn commands_are_made(rt: HostRuntime) -> Result<(), Fail> {
+    assert!(rt; matches!(compact(rt)?, Command::Compact { .. }));
     assert!(rt; matches!(scan(rt)?, Command::Scan(_)));
-    assert!(rt; matches!(status(), Command::Status));
+    assert!(rt; matches!(filtered(rt)?.filter, Pred::Not(_)));
     Ok(())
 }

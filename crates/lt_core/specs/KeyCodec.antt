@@ -53,7 +53,7 @@ read_part key_kind.Text bytes = key_text.read bytes >>= λ t. Some (text_part t.
 unfoldable pub key_part : KeyKind → Codec KeyPart
 key_part kind = record { spell = part_bytes; read = read_part kind; Lawful = λ part. IsTrue (is_part_of kind part) }
 
--- one step of reading gives a byte of a text, or its end; want of memory is free
+-- one step of reading gives a byte of a text, or its end; out of memory is always allowed
 abbrev pub Steps : (List ℕ → Option (List ℕ × List ℕ)) → List ℕ → Result (Option ℕ) DecodeRefusal → List ℕ → Type 0
 Steps read old (Ok (Some b)) new = (read old ≡ with_front (b ∷ []) (unescaped new)) × (length new < length old)
 Steps read old (Ok None) new = read old ≡ Some ([], new)
@@ -89,7 +89,7 @@ NoOtherKey kinds bytes key = (other : ℕ × List KeyPart) → IsKey kinds bytes
 abbrev pub NoKey : List KeyKind → List ℕ → Type 0
 NoKey kinds bytes = (key : ℕ × List KeyPart) → IsKey kinds bytes key → ⊥
 
--- a part of decoding answers what reading gives; want of memory is free
+-- a part of decoding answers what reading gives; out of memory is always allowed
 abbrev pub Decodes : {X A : Type 0} → (X → A) → Option A → Result X DecodeRefusal → Type 0
 Decodes view read (Ok x) = read ≡ Some (view x)
 Decodes view read (Err refusals.NotAKey) = read ≡ None

@@ -20,7 +20,7 @@ KeepsOrder k bytes = (kinds : List KeyKind) (parts : List KeyPart) → IsTrue (i
 abbrev pub escaped_byte : ℕ → List ℕ
 escaped_byte b = if b == 0 then 0 ∷ 255 ∷ [] else b ∷ []
 
--- a key is too long where its bytes are more than the limit; want of memory is free
+-- a key is too long where its bytes are more than the limit; out of memory is always allowed
 abbrev pub KeyRefused : List ℕ → KeyRefusal → Type 0
 KeyRefused bytes (refusals.TooLong len) = (max_key < length bytes) × (len ≡ length bytes)
 KeyRefused bytes refusals.Memory = Unit {0}

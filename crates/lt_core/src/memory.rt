@@ -1,4 +1,4 @@
-//! What the want of memory is called.
+//! The error that memory ran out.
 
 use std::alloc::{AllocError, AllocFailed};
 use std::error::Error;

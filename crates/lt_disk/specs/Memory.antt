@@ -1,6 +1,6 @@
 -- What a disk in memory tells.
-use Rattle.std.specs.Prelude.{IsTrue, List, MatchResult, Result, false, length, true, ℕ, ◌∷◌, ◌≡◌, ◌⊎◌}
-use Rattle.lt_model.specs.Disk.{Only}
+use Rattle.std.specs.Prelude.{IsTrue, List, MatchResult, Result, Some, false, length, true, ℕ, ◌∷◌, ◌≡◌, ◌⊎◌}
+use Rattle.lt_model.specs.Disk.{DiskState, Only}
 use Rattle.lt_disk.specs.Plan.{Plan, counted, fails_next, no_plan}
 use Rattle.lt_disk.specs.History.{LeftSince, MayLeave}
 use Rattle.lt_disk.specs.declared.history.Event.{Event}
@@ -42,6 +42,9 @@ disk_reads d = d.reads
 -- how many writes and syncs found no memory
 abbrev pub disk_lacks : MemDisk → ℕ
 disk_lacks d = d.lacks
+
+abbrev pub disk_state : MemDisk → DiskState
+disk_state d = record { told = Some (disk_held d); faults = disk_faults d; write_faults = disk_write_faults d; reads = disk_reads d; clock = disk_moment d; leaves = disk_may_leave d; left_since = disk_left_since d }
 
 -- a disk that was just made: a crash leaves what it holds, nothing was called, and nothing fails
 pub record IsFresh (d : MemDisk) : Type 0 where

@@ -1,5 +1,6 @@
 //! An adapter over the file store.lt of the current folder. It tells neither its bytes nor its images. A read, a write or a
-//! sync is one call of the system, or a few where that does it in part.
+//! sync is one call of the system, or a few where that does it in part. While the file is open it is locked, so that a second
+//! process that opens it gets a fault.
 
 ghost use Rattle.std.specs.Prelude.{◌≡◌, None};
 ghost use Rattle.lt_model.specs.Disk.{AreBytes};
@@ -14,12 +15,14 @@ use std::rt::Files;
 
 const STORE: &str = "store.lt";
 
-/// A disk over the file store.lt, which its first call opens, and makes empty where there is none. An opening that fails is
-/// that call's fault, and the next call opens again.
+/// A disk over the file store.lt, which its first call opens and locks, and makes empty where there is none. An opening that
+/// fails, as where another process has the lock or store.lt is no regular file, is that call's fault, and the next call opens
+/// again. After a sync that failed each later one fails too, since the system forgets what it could not write.
 #[derive(Drop)]
 pub struct FileDisk<R> {
     rt: R,
     file: Option<File>,
+    sync_failed: bool,
     faults: u64,
     write_faults: u64,
     reads: u64,
@@ -36,6 +39,7 @@ impl<R> FileDisk<R> {
         FileDisk {
             rt,
             file: None,
+            sync_failed: false,
             faults: 0,
             write_faults: 0,
             reads: 0,
@@ -46,19 +50,7 @@ impl<R> FileDisk<R> {
 impl<R: Files<File = File>> Disk for FileDisk<R> {
     ghost use Rattle.lt_disk.specs.Adapters.{file_disk_faults, file_disk_write_faults, file_disk_reads};
 
-    ghost told = { λ _. None };
-
-    ghost moment = { λ _. 0 };
-
-    ghost may_leave = { λ _ c. AreBytes c };
-
-    ghost left_since = { λ _ _ c. AreBytes c };
-
-    ghost faults = { file_disk_faults };
-
-    ghost write_faults = { file_disk_write_faults };
-
-    ghost reads = { file_disk_reads };
+    ghost state = { λ d. record { told = None; faults = file_disk_faults d; write_faults = file_disk_write_faults d; reads = file_disk_reads d; clock = 0; leaves = AreBytes; left_since = λ _. AreBytes } };
 
     fn read_at(&mut self, place: u64, buf: &mut [u8]) -> Result<(), DiskFault> {
         self.reads = self.reads.saturating_add(1);
@@ -80,7 +72,7 @@ impl<R: Files<File = File>> Disk for FileDisk<R> {
     }
 
     fn sync(&mut self) -> Result<(), DiskFault> {
-        if sync(&self.rt, &mut self.file).is_err() {
+        if sync(&self.rt, &mut self.file, &mut self.sync_failed).is_err() {
             self.faults = self.faults.saturating_add(1);
             self.write_faults = self.write_faults.saturating_add(1);
             return Err(DiskFault);
@@ -95,7 +87,7 @@ impl<R: Files<File = File>> Disk for FileDisk<R> {
     ghost reads_an_image = { λ _. tt };
 }
 
-/// The open file. Where it is opened, its name is put on the disk too.
+/// The open file. Where it is opened, it is locked, and its name is put on the disk too.
 fn opened<R: Files<File = File>>(rt: &R, file: Option<File>) -> io::Result<File> {
     if let Some(file) = file {
         return Ok(file);
@@ -105,6 +97,12 @@ fn opened<R: Files<File = File>>(rt: &R, file: Option<File>) -> io::Result<File>
         .write(true)
         .create(true)
         .open(rt, STORE)?;
+    // A copy's descriptor is above those of the standard streams, also where the program was started without one of them.
+    let file = file.try_clone()?;
+    if !file.metadata()?.is_file() {
+        return Err(ErrorKind::InvalidInput.into());
+    }
+    file.try_lock()?;
     File::open(rt, ".")?.sync_all()?;
     Ok(file)
 }
@@ -133,9 +131,18 @@ fn write<R: Files<File = File>>(
     outcome
 }
 
-fn sync<R: Files<File = File>>(rt: &R, slot: &mut Option<File>) -> io::Result<()> {
+fn sync<R: Files<File = File>>(
+    rt: &R,
+    slot: &mut Option<File>,
+    failed: &mut bool,
+) -> io::Result<()> {
     let file = opened(rt, slot.take())?;
-    let outcome = file.sync_all();
+    let outcome = if *failed {
+        Err(ErrorKind::Other.into())
+    } else {
+        file.sync_all()
+    };
+    *failed = outcome.is_err();
     *slot = Some(file);
     outcome
 }

@@ -115,30 +115,18 @@ impl MemDisk {
 }
 
 impl Disk for MemDisk {
-    ghost use Rattle.lt_disk.specs.Memory.{disk_held, disk_may_leave, disk_left_since, disk_moment, disk_faults, disk_plan, disk_write_faults, disk_reads, disk_lacks, disk_history, NotesWrite, NotesSync};
+    ghost use Rattle.lt_disk.specs.Memory.{disk_held, disk_may_leave, disk_plan, disk_state, disk_write_faults, disk_reads, disk_lacks, disk_history, NotesWrite, NotesSync};
     ghost use Rattle.lt_disk.specs.HistoryLaws as laws;
     ghost use Rattle.std.proofs.Common.{subst, sym};
 
-    ghost told = { λ d. Some (disk_held d) };
-
-    ghost moment = { disk_moment };
-
-    ghost may_leave = { disk_may_leave };
-
-    ghost left_since = { disk_left_since };
-
-    ghost faults = { disk_faults };
-
-    ghost write_faults = { disk_write_faults };
-
-    ghost reads = { disk_reads };
+    ghost state = { disk_state };
 
     fn read_at(&mut self, place: u64, buf: &mut [u8]) -> Result<(), DiskFault>
         requires { 0 < length buf.old }
         ensures bytes { OnOk result (Reads (Some (disk_held self.old)) place buf.new) }
         ensures same { Some (disk_held self.new) ≡ Some (disk_held self.old) }
         ensures crash { (c : List ℕ) → disk_may_leave self.new c → disk_may_leave self.old c }
-        ensures called { DiskCalled disk_moment disk_left_since disk_may_leave disk_faults (λ d. Some (disk_held d)) self.old self.new result }
+        ensures called { DiskCalled (disk_state self.old) (disk_state self.new) result }
         ensures read { CountsOne (disk_reads self.old) (disk_reads self.new) }
         ensures written { disk_write_faults self.new ≡ disk_write_faults self.old }
         ensures plan { GoesByPlan (disk_plan self.old) (disk_plan self.new) (is_err result) }
@@ -158,7 +146,7 @@ impl Disk for MemDisk {
         requires { 0 < length bytes.now }
         ensures bytes { WritesTold (Some (disk_held self.old)) (Some (disk_held self.new)) place bytes.now result }
         ensures crash { Follows (Torn place (length bytes.now)) (disk_may_leave self.old) (disk_may_leave self.new) }
-        ensures called { DiskCalled disk_moment disk_left_since disk_may_leave disk_faults (λ d. Some (disk_held d)) self.old self.new result }
+        ensures called { DiskCalled (disk_state self.old) (disk_state self.new) result }
         ensures read { disk_reads self.new ≡ disk_reads self.old }
         ensures written { HasCause (disk_write_faults self.old) (disk_write_faults self.new) result }
         ensures plan { GoesUnlessLacking (disk_plan self.old) (disk_plan self.new) (disk_lacks self.old) (disk_lacks self.new) (is_err result) }
@@ -183,7 +171,7 @@ impl Disk for MemDisk {
         ensures durable { OnOk result (IfSome (Some (disk_held self.new)) (λ image. Only image (disk_may_leave self.new))) }
         ensures same { Some (disk_held self.new) ≡ Some (disk_held self.old) }
         ensures crash { (c : List ℕ) → disk_may_leave self.new c → disk_may_leave self.old c }
-        ensures called { DiskCalled disk_moment disk_left_since disk_may_leave disk_faults (λ d. Some (disk_held d)) self.old self.new result }
+        ensures called { DiskCalled (disk_state self.old) (disk_state self.new) result }
         ensures read { disk_reads self.new ≡ disk_reads self.old }
         ensures written { HasCause (disk_write_faults self.old) (disk_write_faults self.new) result }
         ensures plan { GoesUnlessLacking (disk_plan self.old) (disk_plan self.new) (disk_lacks self.old) (disk_lacks self.new) (is_err result) }

@@ -92,6 +92,11 @@ fn a_file_is_made_at_the_first_call_and_reads_as_written(rt: HostRuntime) -> Res
     let held = fs::read(&rt, "store.lt")?;
     assert_eq!(rt; held.as_slice(), b"\0\0\0abc".as_slice());
     assert_eq!(rt; disk.read_at(u64::MAX, &mut buf), Err(DiskFault));
+    let mut second = FileDisk::new(rt);
+    assert_eq!(rt; second.read_at(2, &mut buf), Err(DiskFault));
+    drop(disk);
+    second.read_at(3, &mut buf)?;
+    assert_eq!(rt; buf, *b"abc\0\0\0");
     fs::remove_file(&rt, "store.lt")?;
     Ok(())
 }

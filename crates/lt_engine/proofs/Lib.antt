@@ -1,4 +1,5 @@
 pub mod BehindLaws
+pub mod BuiltLaws
 pub mod CatalogueChanges
 pub mod DeliveryLaws
 pub mod GivenLaws

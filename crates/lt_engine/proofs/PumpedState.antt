@@ -9,7 +9,8 @@ use Rattle.lt_model.specs.declared.Format.TheVariants as format
 use Rattle.lt_model.specs.Fair.{Feed}
 use Rattle.lt_model.specs.Key.{Range, in_range, ranges_from, tile}
 use Rattle.lt_model.specs.Log.{Change, Header, Item, batch_item, change_item, changes_of, checkpoint_item, close_item, header_item, is_item}
-use Rattle.lt_model.specs.Machine.{Does, State, StreamAt, Stops, Takes, cat_of, entering, moved_by, refused, replies, stream_at, with_items, with_streams}
+use Rattle.lt_model.specs.Machine as Machine
+use Rattle.lt_model.specs.Machine.{Does, PumpsFair, State, StreamAt, Stops, Takes, cat_of, entering, moved_by, refused, replies, stream_at, with_items, with_streams}
 use Rattle.lt_model.specs.Outside.{Memory, name_of}
 use Rattle.lt_model.specs.Reply as model
 use Rattle.lt_model.specs.Schema.{Catalogue, when}
@@ -201,6 +202,25 @@ does_pump f source s s' n asked a items rest p known lawful is number few takes 
         ap₂ (λ (k o : ℕ). replies (model.pump_done n k o p.checkpoint (view_stop p.stop))) number offset ∙ ap (λ (c : ℕ). replies (model.pump_done n (length items) b.offset c (view_stop p.stop))) checkpoint,
       ),
     )
+
+-- what a pump does, whatever the feed exposes
+pub pumps_fair : (s s' : State) (n asked : ℕ) (a : StreamAt) (items : List Item) (p : Pumped) → stream_at s n ≡ Some a → AllByRecursion (λ i. IsTrue (is_item format.One i)) items → Machine.AreFair (cat_of s) a items → s' ≡ with_items n items s
+    → p.records ≡ length items → p.records ≤ asked → p.offset ≡ (moved_by items a).offset → p.checkpoint ≡ (moved_by items a).point.checkpoint → PumpsFair s n asked (replies (view_pumped n p)) s'
+pumps_fair s s' n asked a items p known lawful fair is number few offset checkpoint =
+    let b = moved_by items a in record {
+      stands = a;
+      known = known;
+      items = items;
+      few = subst (λ (k : ℕ). k ≤ asked) number few;
+      fair = fair;
+      entered = [];
+      enter = none_enters items lawful;
+      state = is ∙ no_streams (with_items n items s);
+      at = b;
+      stands_now = ap (λ (x : State). stream_at x n) is ∙ stream_moved n items s ∙ ap (option_map (moved_by items)) known;
+      stop = view_stop p.stop;
+      answer = ap₂ (λ (k o : ℕ). replies (model.pump_done n k o p.checkpoint (view_stop p.stop))) number offset ∙ ap (λ (c : ℕ). replies (model.pump_done n (length items) b.offset c (view_stop p.stop))) checkpoint;
+    }
 
 -- ---- the partitions have no key in common
 

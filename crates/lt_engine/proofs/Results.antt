@@ -31,8 +31,55 @@ pub err_is : {A E : Type 0} (r : Result A E) (x : E) (P : E → Type 0) → IsEr
 err_is (Ok a) x P h p = tt
 err_is (Err e) x P h p = subst P (sym h) p
 
+-- what is refused is decided by the state, or memory ran out
+pub refusal_cases : (o : Option model.Refusal) (P : Refusal → Type 0) → ((e : Refusal) → IsSpoken e → o ≡ Some (view_refusal e) → P e) → P refusals.Memory → (e : Refusal) → Refuses o e → P e
+refusal_cases o P decided lacks refusals.NeedsReopen h = decided refusals.NeedsReopen h.0 h.1
+refusal_cases o P decided lacks (refusals.NoPartition part) h = decided (refusals.NoPartition part) h.0 h.1
+refusal_cases o P decided lacks (refusals.NoSuchDelta id) h = decided (refusals.NoSuchDelta id) h.0 h.1
+refusal_cases o P decided lacks (refusals.TooOld min) h = decided (refusals.TooOld min) h.0 h.1
+refusal_cases o P decided lacks (refusals.AboveDurable durable) h = decided (refusals.AboveDurable durable) h.0 h.1
+refusal_cases o P decided lacks (refusals.BelowMin min) h = decided (refusals.BelowMin min) h.0 h.1
+refusal_cases o P decided lacks refusals.TooManyDeltas h = decided refusals.TooManyDeltas h.0 h.1
+refusal_cases o P decided lacks refusals.JobOpen h = decided refusals.JobOpen h.0 h.1
+refusal_cases o P decided lacks refusals.NoJob h = decided refusals.NoJob h.0 h.1
+refusal_cases o P decided lacks refusals.NotDone h = decided refusals.NotDone h.0 h.1
+refusal_cases o P decided lacks (refusals.StoreFull need room) h = decided (refusals.StoreFull need room) h.0 h.1
+refusal_cases o P decided lacks refusals.DiskFault h = decided refusals.DiskFault h.0 h.1
+refusal_cases o P decided lacks (refusals.Damaged place len) h = decided (refusals.Damaged place len) h.0 h.1
+refusal_cases o P decided lacks (refusals.FeedMismatch stream) h = decided (refusals.FeedMismatch stream) h.0 h.1
+refusal_cases o P decided lacks refusals.Worn h = decided refusals.Worn h.0 h.1
+refusal_cases o P decided lacks (refusals.UnknownTable name) h = decided (refusals.UnknownTable name) h.0 h.1
+refusal_cases o P decided lacks (refusals.UnknownVersion version) h = decided (refusals.UnknownVersion version) h.0 h.1
+refusal_cases o P decided lacks (refusals.Retired version) h = decided (refusals.Retired version) h.0 h.1
+refusal_cases o P decided lacks (refusals.LastVersion version) h = decided (refusals.LastVersion version) h.0 h.1
+refusal_cases o P decided lacks (refusals.BadSchema cause) h = decided (refusals.BadSchema cause) h.0 h.1
+refusal_cases o P decided lacks (refusals.NoStream stream) h = decided (refusals.NoStream stream) h.0 h.1
+refusal_cases o P decided lacks (refusals.NotSafe part checkpoint) h = decided (refusals.NotSafe part checkpoint) h.0 h.1
+refusal_cases o P decided lacks (refusals.BadColumn name) h = decided (refusals.BadColumn name) h.0 h.1
+refusal_cases o P decided lacks (refusals.WrongType name) h = decided (refusals.WrongType name) h.0 h.1
+refusal_cases o P decided lacks (refusals.KeyTooLong len) h = decided (refusals.KeyTooLong len) h.0 h.1
+refusal_cases o P decided lacks (refusals.AtEdge part) h = decided (refusals.AtEdge part) h.0 h.1
+refusal_cases o P decided lacks refusals.TooManyParts h = decided refusals.TooManyParts h.0 h.1
+refusal_cases o P decided lacks refusals.OutFault h = absurd h
+refusal_cases o P decided lacks refusals.FeedFault h = absurd h
+refusal_cases o P decided lacks refusals.Memory h = lacks
+
 -- a refusal for one reason is one for another that is the same
 pub refuses_to : (o p : Option model.Refusal) → ((r : model.Refusal) → o ≡ Some r → p ≡ Some r) → (e : Refusal) → Refuses o e → Refuses p e
+refuses_to o p f refusals.NeedsReopen h = (h.0, f _ h.1)
+refuses_to o p f (refusals.NoPartition part) h = (h.0, f _ h.1)
+refuses_to o p f (refusals.NoSuchDelta id) h = (h.0, f _ h.1)
+refuses_to o p f (refusals.TooOld min) h = (h.0, f _ h.1)
+refuses_to o p f (refusals.AboveDurable durable) h = (h.0, f _ h.1)
+refuses_to o p f (refusals.BelowMin min) h = (h.0, f _ h.1)
+refuses_to o p f refusals.TooManyDeltas h = (h.0, f _ h.1)
+refuses_to o p f refusals.JobOpen h = (h.0, f _ h.1)
+refuses_to o p f refusals.NoJob h = (h.0, f _ h.1)
+refuses_to o p f refusals.NotDone h = (h.0, f _ h.1)
+refuses_to o p f (refusals.StoreFull need room) h = (h.0, f _ h.1)
+refuses_to o p f refusals.DiskFault h = (h.0, f _ h.1)
+refuses_to o p f (refusals.Damaged place len) h = (h.0, f _ h.1)
+refuses_to o p f (refusals.FeedMismatch stream) h = (h.0, f _ h.1)
 refuses_to o p f refusals.Worn h = (h.0, f _ h.1)
 refuses_to o p f (refusals.UnknownTable name) h = (h.0, f _ h.1)
 refuses_to o p f (refusals.UnknownVersion version) h = (h.0, f _ h.1)
@@ -51,41 +98,11 @@ refuses_to o p f refusals.FeedFault h = h
 refuses_to o p f refusals.Memory h = tt
 
 pub refuses_spoken : (o : Option model.Refusal) (e : Refusal) → Refuses o e → IsSpoken e
-refuses_spoken o refusals.Worn h = h.0
-refuses_spoken o (refusals.UnknownTable name) h = h.0
-refuses_spoken o (refusals.UnknownVersion version) h = h.0
-refuses_spoken o (refusals.Retired version) h = h.0
-refuses_spoken o (refusals.LastVersion version) h = h.0
-refuses_spoken o (refusals.BadSchema cause) h = h.0
-refuses_spoken o (refusals.NoStream stream) h = h.0
-refuses_spoken o (refusals.NotSafe part checkpoint) h = h.0
-refuses_spoken o (refusals.BadColumn name) h = h.0
-refuses_spoken o (refusals.WrongType name) h = h.0
-refuses_spoken o (refusals.KeyTooLong len) h = h.0
-refuses_spoken o (refusals.AtEdge part) h = h.0
-refuses_spoken o refusals.TooManyParts h = h.0
-refuses_spoken o refusals.OutFault h = absurd h
-refuses_spoken o refusals.FeedFault h = absurd h
-refuses_spoken o refusals.Memory h = tt
+refuses_spoken o e h = refusal_cases o IsSpoken (λ e spoken d. spoken) tt e h
 
 -- memory alone is free
 pub refused_or_lacks : (P : model.Refusal → Type 0) (o : Option model.Refusal) → ((e : Refusal) → o ≡ Some (view_refusal e) → P (view_refusal e)) → P out_of_memory → (e : Refusal) → Refuses o e → P (view_refusal e)
-refused_or_lacks P o f m refusals.Worn h = f refusals.Worn h.1
-refused_or_lacks P o f m (refusals.UnknownTable name) h = f (refusals.UnknownTable name) h.1
-refused_or_lacks P o f m (refusals.UnknownVersion version) h = f (refusals.UnknownVersion version) h.1
-refused_or_lacks P o f m (refusals.Retired version) h = f (refusals.Retired version) h.1
-refused_or_lacks P o f m (refusals.LastVersion version) h = f (refusals.LastVersion version) h.1
-refused_or_lacks P o f m (refusals.BadSchema cause) h = f (refusals.BadSchema cause) h.1
-refused_or_lacks P o f m (refusals.NoStream stream) h = f (refusals.NoStream stream) h.1
-refused_or_lacks P o f m (refusals.NotSafe part checkpoint) h = f (refusals.NotSafe part checkpoint) h.1
-refused_or_lacks P o f m (refusals.BadColumn name) h = f (refusals.BadColumn name) h.1
-refused_or_lacks P o f m (refusals.WrongType name) h = f (refusals.WrongType name) h.1
-refused_or_lacks P o f m (refusals.KeyTooLong len) h = f (refusals.KeyTooLong len) h.1
-refused_or_lacks P o f m (refusals.AtEdge part) h = f (refusals.AtEdge part) h.1
-refused_or_lacks P o f m refusals.TooManyParts h = f refusals.TooManyParts h.1
-refused_or_lacks P o f m refusals.OutFault h = absurd h
-refused_or_lacks P o f m refusals.FeedFault h = absurd h
-refused_or_lacks P o f m refusals.Memory h = m
+refused_or_lacks P o f m e h = refusal_cases o (λ e. P (view_refusal e)) (λ e spoken d. f e d) m e h
 
 -- ---- the version that a command names
 

@@ -1,141 +1,154 @@
 -- The command that scans: what it answers is the machine's, with the rows that were given before it.
-use Rattle.std.proofs.Common.{List, [], ap, append-nil, arith, inl, inr, refl, subst, sym, take, ℕ, ◌≡◌, ◌⊎◌}
-use Rattle.std.specs.Prelude.{Err, IfErr, IfOk, IfSome, IsTrue, None, Ok, OnOk, Option, Result, Some}
+use Rattle.std.proofs.Common.{List, [], ap, append-nil, arith, inl, inr, refl, subst, sym, take, ◌+◌, ◌≡◌, ◌⊎◌}
+use Rattle.std.proofs.lemmas.Bool.{false≢true}
+use Rattle.std.specs.Prelude.{Err, IfErr, IfOk, IfSome, None, Ok, OnOk, Option, Result, Some, ◌<◌, ◌≤◌}
 use Rattle.std.specs.Io.KnownBytes.{Appends}
-use Rattle.lt_model.specs.Disk.{Rose}
+use Rattle.lt_model.specs.Disk.{DiskState, Rose}
 use Rattle.lt_model.specs.Fair.{Feed}
-use Rattle.lt_model.specs.InMemory.{causes_between}
-use Rattle.lt_model.specs.Log.{Change}
-use Rattle.lt_model.specs.Machine.{Does, query_of, refused, replies}
-use Rattle.lt_model.specs.Outside.{BelongsTo, Given, GivenUpTo, StaysBut, caused_by, texts_of}
+use Rattle.lt_model.specs.InMemory.{memory_causes}
+use Rattle.lt_model.specs.Machine.{refused}
+use Rattle.lt_model.specs.Outside.{BelongsTo, FeedState, Given, GivenUpTo, RowSinkState, StaysBut, World, counts_at, texts_of, world_of}
 use Rattle.lt_model.specs.Query.{Query}
 use Rattle.lt_model.specs.Reply as model
-use Rattle.lt_model.specs.Run.{is_fault}
+use Rattle.lt_model.specs.Run.{Shows}
 use Rattle.lt_model.specs.Script.{do_scan}
 use Rattle.lt_model.specs.Sound.{source_of}
+use Rattle.lt_model.specs.Step.{BreaksIn, RefusesAs}
 use Rattle.lt_model.specs.Value.{Value}
 use Rattle.lt_reply.specs.View.{IsSpoken, view_refusal, view_reply}
 use Rattle.lt_reply.specs.declared.refusal.Refusal.{Refusal}
 use Rattle.lt_reply.specs.declared.refusal.Refusal.TheVariants as refusals
 use Rattle.lt_reply.specs.declared.reply.Reply.{Reply}
+use Rattle.lt_io.specs.declared.row_sink.RowRefusal.{RowRefusal}
+use Rattle.lt_io.specs.declared.row_sink.RowRefusal.TheVariants as rows
+use Rattle.lt_engine.specs.Scans.{GivesSome}
 use Rattle.lt_engine.specs.State.{memory_of, state_of}
-use Rattle.lt_engine.specs.Steps.{BreaksOff, Refuses, RefusesAs, ScanFails, Scanned, Sink, answer_of, with_rows}
-use Rattle.lt_engine.specs.Stepped.{IsAnswered, Stepped}
+use Rattle.lt_engine.specs.Steps.{AreRows, BreaksOff, Refuses, ScanFails, Scanned, answer_of, breaks_off, refuses_scan, sink_fails, with_rows}
+use Rattle.lt_engine.specs.Stepped.{IsAnswered, LeadsOn}
 use Rattle.lt_engine.specs.declared.replica.Replica.{Replica}
 use Rattle.lt_engine.proofs.Results.{refuses_spoken}
-use Rattle.lt_engine.proofs.StepLaws.{and_stays, free_step, given_nothing, is_refused, no_fault, refusal_answers}
-
--- why a scan fails: the sink, memory, or a refusal
-cases : (r : Replica) (q : Query) (before now : Sink) (P : Refusal → Type 0) → (ScanFails r q before now refusals.OutFault → P refusals.OutFault) → (ScanFails r q before now refusals.Memory → P refusals.Memory)
-    → ((e : Refusal) → now ≡ before → Refuses (refused (state_of r) (do_scan q)) e → P e) → (e : Refusal) → ScanFails r q before now e → P e
-cases r q before now P out memory other refusals.OutFault h = out h
-cases r q before now P out memory other refusals.Memory h = memory h
-cases r q before now P out memory other refusals.FeedFault h = other refusals.FeedFault h.0 h.1
-cases r q before now P out memory other refusals.Worn h = other refusals.Worn h.0 h.1
-cases r q before now P out memory other (refusals.UnknownTable name) h = other (refusals.UnknownTable name) h.0 h.1
-cases r q before now P out memory other (refusals.UnknownVersion version) h = other (refusals.UnknownVersion version) h.0 h.1
-cases r q before now P out memory other (refusals.Retired version) h = other (refusals.Retired version) h.0 h.1
-cases r q before now P out memory other (refusals.LastVersion version) h = other (refusals.LastVersion version) h.0 h.1
-cases r q before now P out memory other (refusals.BadSchema cause) h = other (refusals.BadSchema cause) h.0 h.1
-cases r q before now P out memory other (refusals.NoStream stream) h = other (refusals.NoStream stream) h.0 h.1
-cases r q before now P out memory other (refusals.NotSafe part checkpoint) h = other (refusals.NotSafe part checkpoint) h.0 h.1
-cases r q before now P out memory other (refusals.BadColumn name) h = other (refusals.BadColumn name) h.0 h.1
-cases r q before now P out memory other (refusals.WrongType name) h = other (refusals.WrongType name) h.0 h.1
-cases r q before now P out memory other (refusals.KeyTooLong len) h = other (refusals.KeyTooLong len) h.0 h.1
-cases r q before now P out memory other (refusals.AtEdge part) h = other (refusals.AtEdge part) h.0 h.1
-cases r q before now P out memory other refusals.TooManyParts h = other refusals.TooManyParts h.0 h.1
+use Rattle.lt_engine.proofs.StepLaws.{IsCaused, and_stays, free_step, given_nothing, is_caused, is_refused, leads_on, refusal_answers}
 
 -- ---- the machine
 
-given_whole : (spell : List Value → List ℕ) (told told' : Option (List ℕ)) (rows rows' : Option (List (List Value))) (given : List (List Value)) (answer : Result model.Reply model.Refusal) → Given spell told told' rows rows' given → GivenUpTo spell told told' rows rows' given answer
-given_whole spell told told' rows rows' given answer g = record { broken_off = []; text = subst (Appends told told') (sym (append-nil (texts_of spell given))) g.text; list = g.list; only_so = inl refl }
+abbrev given_whole : (rows rows' : RowSinkState) (given : List (List Value)) (answer : Result model.Reply model.Refusal) → Given rows rows' given → GivenUpTo rows rows' given answer
+given_whole rows rows' given answer g = record { next = []; broken_off = []; text = subst (Appends rows.told rows'.told) (sym (append-nil (texts_of rows.spell given))) g.text; list = g.list; only_so = inl refl }
 
-untouched : (faults : ℕ) (f : Feed) (r : Replica) (q : Query) (before now : Sink) (e : Refusal) → now ≡ before → Refuses (refused (state_of r) (do_scan q)) e → BelongsTo f (state_of r) (memory_of r) → IsAnswered f faults faults before now r r (do_scan q) (Err e)
-untouched faults f r q before now e same h b = subst (λ (s : Sink). IsAnswered f faults faults before s r r (do_scan q) (Err e)) (sym same)
-    ([], given_nothing before.spell before.told before.rows (Err (view_refusal e)), refusal_answers (causes_between faults faults before.faults before.faults) f b.0 (state_of r) (do_scan q) e refl b.1.fronts h)
+-- the worlds that a scan goes from and to
+abbrev from_to : DiskState → FeedState → RowSinkState → World
+from_to disk feed rows = world_of disk feed rows
 
-out_fails : (faults : ℕ) (f : Feed) (r : Replica) (q : Query) (before now : Sink) → Rose before.faults now.faults → BreaksOff r q before now refusals.OutFault → BelongsTo f (state_of r) (memory_of r) → IsAnswered f faults faults before now r r (do_scan q) (Err refusals.OutFault)
-out_fails faults f r q before now rose h b =
-    (take h.number h.all, h.appended, (b.0, b.1.fronts, inr (model.out_fault, refl, refl, refl, rose, inr (q, h.all, h.number, refl, h.are_rows f b, refl), inl refl, inr h.free)))
+untouched : (disk : DiskState) (feed : FeedState) (f : Feed) (r : Replica) (q : Query) (before now : RowSinkState) (e : Refusal) → now ≡ before → Refuses (refused (state_of r) (do_scan q)) e → BelongsTo f (state_of r) (memory_of r)
+    → IsAnswered f (from_to disk feed before) (from_to disk feed now) r r (do_scan q) (Err e)
+untouched disk feed f r q before now e same h b =
+    let w = from_to disk feed before in
+    subst (λ (s : RowSinkState). IsAnswered f w (from_to disk feed s) r r (do_scan q) (Err e)) (sym same)
+    ([], given_nothing before (Err (view_refusal e)), inl refl, refusal_answers (memory_causes (counts_at w) (counts_at w)) f b.0 (state_of r) (do_scan q) e refl b.1.fronts h)
 
-memory_fails : (faults : ℕ) (f : Feed) (r : Replica) (q : Query) (before now : Sink) → BreaksOff r q before now refusals.Memory → BelongsTo f (state_of r) (memory_of r) → IsAnswered f faults faults before now r r (do_scan q) (Err refusals.Memory)
-memory_fails faults f r q before now h b =
-    (take h.number h.all, h.appended, (b.0, b.1.fronts, inr (model.out_of_memory, refl, refl, refl, tt, inr (q, h.all, h.number, refl, h.are_rows f b, refl), inl refl, inr h.free)))
+-- the row that the sink broke off in is the next one
+breaks_in : (f : Feed) (r : Replica) (q : Query) (before now : RowSinkState) (e : Refusal) → (h : BreaksOff r q before now e) → BelongsTo f (state_of r) (memory_of r)
+    → (h.appended.broken_off ≡ []) ⊎ BreaksIn f (state_of r) (do_scan q) (take h.number h.all) h.appended.next
+breaks_in f r q before now e h b = elim h.next [ inl none ↦ inl none | inr is ↦ inr (b.0, b.1.fronts, inr (q, h.all, h.number + 1, refl, h.are_rows f b, is)) ]
 
-fails : (faults : ℕ) (f : Feed) (r : Replica) (q : Query) (before now : Sink) (e : Refusal) → ScanFails r q before now e → BelongsTo f (state_of r) (memory_of r) → IsAnswered f faults faults before now r r (do_scan q) (Err e)
-fails faults f r q before now e h b =
-    cases r q before now (λ e. IsAnswered f faults faults before now r r (do_scan q) (Err e)) (λ h. out_fails faults f r q before now h.0 h.1 b) (λ h. lacks h.1) (λ e same h. untouched faults f r q before now e same h b) e h
-  where
-    lacks : (now ≡ before) ⊎ BreaksOff r q before now refusals.Memory → IsAnswered f faults faults before now r r (do_scan q) (Err refusals.Memory)
-    lacks (inl same) = untouched faults f r q before now refusals.Memory same tt b
-    lacks (inr h) = memory_fails faults f r q before now h b
+fails : (disk : DiskState) (feed : FeedState) (f : Feed) (r : Replica) (q : Query) (before now : RowSinkState) (e : Refusal) → ScanFails r q before now e → BelongsTo f (state_of r) (memory_of r)
+    → IsAnswered f (from_to disk feed before) (from_to disk feed now) r r (do_scan q) (Err e)
+fails disk feed f r q before now e (sink_fails is rose h) b = subst (λ (e : Refusal). IsAnswered f (from_to disk feed before) (from_to disk feed now) r r (do_scan q) (Err e)) (sym is)
+    (take h.number h.all, h.appended, breaks_in f r q before now refusals.OutFault h b, (b.0, b.1.fronts, inr (model.out_fault, refl, refl, refl, rose, inr (q, h.all, h.number, refl, h.are_rows f b, refl), inl refl, inr h.free)))
+fails disk feed f r q before now e (breaks_off is kept h) b = subst (λ (e : Refusal). IsAnswered f (from_to disk feed before) (from_to disk feed now) r r (do_scan q) (Err e)) (sym is)
+    (take h.number h.all, h.appended, breaks_in f r q before now refusals.Memory h b, (b.0, b.1.fronts, inr (model.out_of_memory, refl, refl, refl, tt, inr (q, h.all, h.number, refl, h.are_rows f b, refl), inl refl, inr h.free)))
+fails disk feed f r q before now e (refuses_scan same h) b = untouched disk feed f r q before now e same h b
 
-machine : (told : Option Feed) (faults : ℕ) (r : Replica) (q : Query) (before now : Sink) (result : Result Reply Refusal) → IfOk result (Scanned r q before now) → IfErr result (ScanFails r q before now)
-    → IfSome told (λ f. BelongsTo f (state_of r) (memory_of r) → IsAnswered f faults faults before now r r (do_scan q) result)
-machine None faults r q before now result d h = tt
-machine (Some f) faults r q before now (Ok reply) d h = λ b. (
+machine : (told : Option Feed) (disk : DiskState) (feed : FeedState) (r : Replica) (q : Query) (before now : RowSinkState) (result : Result Reply Refusal) → IfOk result (Scanned r q before now) → IfErr result (ScanFails r q before now)
+    → IfSome told (λ f. BelongsTo f (state_of r) (memory_of r) → IsAnswered f (from_to disk feed before) (from_to disk feed now) r r (do_scan q) result)
+machine None disk feed r q before now result d h = tt
+machine (Some f) disk feed r q before now (Ok reply) d h = λ b. (
   d.given,
-  given_whole before.spell before.told now.told before.rows now.rows d.given (Ok (view_reply reply)) d.appended,
+  given_whole before now d.given (Ok (view_reply reply)) d.appended,
+  inl refl,
   (b.0, b.1.fronts, inl (free_step f (source_of b.0) (state_of r) (state_of r) (do_scan q) (with_rows d.given (Ok reply)) d.free (d.are_rows f b, ap Ok d.reply_is, refl))),
 )
-machine (Some f) faults r q before now (Err e) d h = λ b. fails faults f r q before now e h b
+machine (Some f) disk feed r q before now (Err e) d h = λ b. fails disk feed f r q before now e h b
 
--- ---- whatever the feed tells
+-- why a scan breaks off, by why a row was not taken
+pub scan_breaks : (r : Replica) (q : Query) (before now : RowSinkState) (all : List (List Value)) (e : RowRefusal) (x : Refusal) → refused (state_of r) (do_scan q) ≡ None → AreRows r q all → GivesSome before now all e
+    → (e ≡ rows.Fault → Rose before.faults now.faults) → (e ≡ rows.Memory → now.faults ≡ before.faults) → (e ≡ rows.Fault → x ≡ refusals.OutFault) → (e ≡ rows.Memory → x ≡ refusals.Memory) → ScanFails r q before now x
+scan_breaks r q before now all rows.Fault x free are gives cause lacks fault memory = sink_fails (fault refl) (cause refl) (record { free = free; all = all; number = gives.number; appended = gives.appended; next = gives.next; are_rows = are })
+scan_breaks r q before now all rows.Memory x free are gives cause lacks fault memory = breaks_off (memory refl) (lacks refl) (record { free = free; all = all; number = gives.number; appended = gives.appended; next = gives.next; are_rows = are })
 
-refused_as : (r : Replica) (q : Query) (before now : Sink) (result : Result Reply Refusal) → IfOk result (Scanned r q before now) → IfErr result (ScanFails r q before now)
+-- ---- whatever the feed exposes
+
+-- at a row sink's fault its count rose, and at no other refusal
+sink_kept : (r : Replica) (q : Query) (before now : RowSinkState) (e : Refusal) → ScanFails r q before now e → before.faults < now.faults → e ≡ refusals.OutFault
+sink_kept r q before now e (sink_fails is rose h) less = is
+sink_kept r q before now e (breaks_off is kept h) less = absurd (omega (arith, kept, less))
+sink_kept r q before now e (refuses_scan same h) less = let kept : now.faults ≡ before.faults = ap (λ (s : RowSinkState). s.faults) same in absurd (omega (arith, kept, less))
+
+out_failed : (r : Replica) (q : Query) (before now : RowSinkState) (result : Result Reply Refusal) → IfOk result (Scanned r q before now) → IfErr result (ScanFails r q before now) → before.faults < now.faults → answer_of result ≡ Err model.out_fault
+out_failed r q before now (Ok reply) d h less = let kept : now.faults ≡ before.faults = d.kept in absurd (omega (arith, kept, less))
+out_failed r q before now (Err e) d h less = ap (λ (e : Refusal). Err (view_refusal e)) (sink_kept r q before now e h less)
+
+succeeded : {A : Type 0} (r : Replica) (q : Query) (before now : RowSinkState) (result : Result Reply Refusal) → IfOk result (Scanned r q before now) → (now.faults ≡ before.faults → A) → OnOk (answer_of result) A
+succeeded {A} r q before now (Ok reply) d a = a d.kept
+succeeded {A} r q before now (Err e) d a = tt
+
+shows : (disk : DiskState) (feed : FeedState) (r : Replica) (q : Query) (before now : RowSinkState) (result : Result Reply Refusal) → before.faults ≤ now.faults → IfOk result (Scanned r q before now) → IfErr result (ScanFails r q before now)
+    → Shows (counts_at (from_to disk feed before)) (counts_at (from_to disk feed now)) (state_of r) (state_of r) (do_scan q) (answer_of result)
+shows disk feed r q before now result later d h = record {
+  later = record { feed = omega arith; calls = omega arith; script = omega arith; disk = omega arith; write_faults = omega arith; out = later; clock = omega arith };
+  succeeded = succeeded r q before now result d (λ kept. (refl, refl, refl, kept));
+  feed_failed = λ less. absurd (omega (arith, less));
+  write_failed = λ less. absurd (omega (arith, less));
+  disk_failed = λ free less. absurd (omega (arith, less));
+  out_failed = out_failed r q before now result d h;
+  called = λ yes tells. absurd (false≢true yes);
+  not_called = λ no. refl;
+  not_used = λ no. record { disk = refl; write_faults = refl; clock = refl };
+  breaks = λ whole broken. absurd (false≢true broken);
+}
+
+refused_as : (r : Replica) (q : Query) (before now : RowSinkState) (result : Result Reply Refusal) → IfOk result (Scanned r q before now) → IfErr result (ScanFails r q before now)
     → IfSome (refused (state_of r) (do_scan q)) (λ x. RefusesAs x (answer_of result) × (state_of r ≡ state_of r))
 refused_as r q before now (Ok reply) d h = subst (λ (o : Option model.Refusal). IfSome o (λ x. RefusesAs x (Ok (view_reply reply)) × (state_of r ≡ state_of r))) (sym d.free) tt
-refused_as r q before now (Err e) d h =
-    cases r q before now (λ e. IfSome o (λ x. RefusesAs x (Err (view_refusal e)) × (state_of r ≡ state_of r))) (λ h. free h.1.free) (λ h. lacks o) (λ e same h. and_stays o (λ x. RefusesAs x (Err (view_refusal e))) refl (is_refused o e h)) e h
+refused_as r q before now (Err e) d (sink_fails is rose h) = subst (λ (o : Option model.Refusal). IfSome o (λ x. RefusesAs x (Err (view_refusal e)) × (state_of r ≡ state_of r))) (sym h.free) tt
+refused_as r q before now (Err e) d (breaks_off is kept h) = subst (λ (o : Option model.Refusal). IfSome o (λ x. RefusesAs x (Err (view_refusal e)) × (state_of r ≡ state_of r))) (sym h.free) tt
+refused_as r q before now (Err e) d (refuses_scan same h) = let o = refused (state_of r) (do_scan q) in and_stays o (λ x. RefusesAs x (Err (view_refusal e))) refl (is_refused o e h)
+
+pub scan_spoken : (r : Replica) (q : Query) (before now : RowSinkState) (result : Result Reply Refusal) → IfErr result (ScanFails r q before now) → IfErr result IsSpoken
+scan_spoken r q before now (Ok reply) h = tt
+scan_spoken r q before now (Err e) (sink_fails is rose h) = subst IsSpoken (sym is) tt
+scan_spoken r q before now (Err e) (breaks_off is kept h) = subst IsSpoken (sym is) tt
+scan_spoken r q before now (Err e) (refuses_scan same h) = refuses_spoken (refused (state_of r) (do_scan q)) e h
+
+causes : (disk : DiskState) (feed : FeedState) (r : Replica) (q : Query) (before now : RowSinkState) (result : Result Reply Refusal) → IfErr result (ScanFails r q before now)
+    → IfErr (answer_of result) (IsCaused (memory_causes (counts_at (from_to disk feed before)) (counts_at (from_to disk feed now))) (refused (state_of r) (do_scan q)) (do_scan q))
+causes disk feed r q before now (Ok reply) h = tt
+causes disk feed r q before now (Err e) h = by e h
   where
-    o : Option model.Refusal
-    o = refused (state_of r) (do_scan q)
+    caused : Refusal → Type 0
+    caused e = IsCaused (memory_causes (counts_at (from_to disk feed before)) (counts_at (from_to disk feed now))) (refused (state_of r) (do_scan q)) (do_scan q) (view_refusal e)
 
-    free : o ≡ None → IfSome o (λ x. RefusesAs x (Err model.out_fault) × (state_of r ≡ state_of r))
-    free e = subst (λ (o : Option model.Refusal). IfSome o (λ x. RefusesAs x (Err model.out_fault) × (state_of r ≡ state_of r))) (sym e) tt
+    by : (e : Refusal) → ScanFails r q before now e → caused e
+    by e (sink_fails is rose h) = subst caused (sym is) (inr (refl, refl, rose))
+    by e (breaks_off is kept h) = subst caused (sym is) (inr (refl, refl, tt))
+    by e (refuses_scan same h) = is_caused (memory_causes (counts_at (from_to disk feed before)) (counts_at (from_to disk feed now))) (refused (state_of r) (do_scan q)) (do_scan q) e refl h
 
-    lacks : (o : Option model.Refusal) → IfSome o (λ x. RefusesAs x (Err model.out_of_memory) × (state_of r ≡ state_of r))
-    lacks None = tt
-    lacks (Some x) = (inr refl, refl)
-
-spoken_by : (r : Replica) (q : Query) (before now : Sink) (result : Result Reply Refusal) → IfErr result (ScanFails r q before now) → IfErr result IsSpoken
-spoken_by r q before now (Ok reply) h = tt
-spoken_by r q before now (Err e) h = cases r q before now IsSpoken (λ h. tt) (λ h. tt) (λ e same h. refuses_spoken (refused (state_of r) (do_scan q)) e h) e h
-
-causes_of : (faults faults' : ℕ) (r : Replica) (q : Query) (before now : Sink) (result : Result Reply Refusal) → IfErr result (ScanFails r q before now)
-    → IfErr result (λ e. IsTrue (is_fault (view_refusal e)) → caused_by (causes_between faults faults' before.faults now.faults) (view_refusal e))
-causes_of faults faults' r q before now (Ok reply) h = tt
-causes_of faults faults' r q before now (Err e) h =
-    let causes = causes_between faults faults' before.faults now.faults in
-    cases r q before now (λ e. IsTrue (is_fault (view_refusal e)) → caused_by causes (view_refusal e)) (λ h t. h.0) (λ h t. tt) (λ e same h. no_fault causes (refused (state_of r) (do_scan q)) e h) e h
-
-succeeded : (faults : ℕ) (r : Replica) (q : Query) (before now : Sink) (result : Result Reply Refusal) → IfOk result (Scanned r q before now) → OnOk result ((faults ≡ faults) × (now.faults ≡ before.faults))
-succeeded faults r q before now (Ok reply) d = (refl, d.kept)
-succeeded faults r q before now (Err e) d = tt
-
-stays_but : (r : Replica) (q : Query) (result : Result Reply Refusal) → IfErr result (λ e. StaysBut (do_scan q) (view_refusal e) (state_of r) (state_of r))
+stays_but : (r : Replica) (q : Query) (result : Result Reply Refusal) → IfErr (answer_of result) (λ e. StaysBut (do_scan q) e (state_of r) (state_of r))
 stays_but r q (Ok reply) = tt
 stays_but r q (Err e) = inl refl
 
--- it is a query
-no_query : (told : Option Feed) (r : Replica) (q : Query) (result : Result Reply Refusal)
-    → IfSome told (λ f. (source : List Change) → query_of (do_scan q) ≡ None → IfOk result (λ reply. Does f source (state_of r) (do_scan q) (replies (view_reply reply)) (state_of r)))
-no_query None r q result = tt
-no_query (Some f) r q result = λ source e. absurd cc
-
-pub scan_step : (told : Option Feed) (faults : ℕ) (r : Replica) (q : Query) (before now : Sink) (result : Result Reply Refusal) → IfOk result (Scanned r q before now) → IfErr result (ScanFails r q before now)
-    → Stepped told faults faults before now r r (do_scan q) result
-scan_step told faults r q before now result d h = record {
-  machine = machine told faults r q before now result d h;
-  belongs = itself told;
-  done = no_query told r q result;
+pub scan_step : (disk : DiskState) (feed : FeedState) (r : Replica) (q : Query) (before now : RowSinkState) (result : Result Reply Refusal) → before.faults ≤ now.faults → IfOk result (Scanned r q before now) → IfErr result (ScanFails r q before now)
+    → LeadsOn (world_of disk feed before) (world_of disk feed now) r r (do_scan q) result
+scan_step disk feed r q before now result later d h = leads_on disk feed feed before now r r (do_scan q) result (record {
+  machine = machine feed.told disk feed r q before now result d h;
+  belongs = itself feed.told;
+  above = λ a. a;
+  shows = shows disk feed r q before now result later d h;
+  causes = causes disk feed r q before now result h;
   refused = refused_as r q before now result d h;
-  spoken = spoken_by r q before now result h;
-  causes = causes_of faults faults r q before now result h;
-  feed_failed = λ less. absurd (omega (arith, less));
-  kept = stays_but r q result;
-  succeeded = succeeded faults r q before now result d;
-}
+  stays = stays_but r q result;
+  again = refl;
+  done = λ none. absurd cc;
+})
   where
     itself : (told : Option Feed) → IfSome told (λ f. BelongsTo f (state_of r) (memory_of r) → BelongsTo f (state_of r) (memory_of r))
     itself None = tt

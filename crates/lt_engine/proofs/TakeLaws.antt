@@ -1,24 +1,28 @@
 -- What a pump answers and leaves, by what its call on the streams does.
-use Rattle.std.proofs.Common.{List, ap, ap₂, inl, inr, length, map, refl, slice_set, subst, sym, ℕ, ◌<◌, ◌∙◌, ◌≡◌, ◌≤◌}
-use Rattle.std.specs.Prelude.{Err, IfErr, IfSome, IsErrOf, None, Option, Result, Some, slice_get, ◌↔◌}
+use Rattle.std.proofs.Common.{List, [], ap, ap₂, inl, inr, length, map, refl, slice_set, subst, suc, sym, zero, ℕ, ◌<◌, ◌∙◌, ◌∷◌, ◌≡◌, ◌≤◌}
+use Rattle.std.specs.Prelude.{Err, IfErr, IfSome, IsErrOf, IsTrue, None, Option, Result, Some, slice_get, ◌↔◌}
 use Rattle.std.specs.Result.{IsErrAnd}
 use Rattle.std.proofs.lemmas.Bool.{cases_lt}
 use Rattle.std.proofs.lemmas.List.{length-map}
+use Rattle.std.proofs.lemmas.Option.{same_Some}
 use Rattle.lt_model.specs.Disk.{Rose}
 use Rattle.lt_model.specs.Fair.{Feed}
 use Rattle.lt_model.specs.Key.{Range}
-use Rattle.lt_model.specs.Log.{Change, Item, changes_of}
-use Rattle.lt_model.specs.Machine.{Does, State, StreamAt, Stops, moved_by, refused, replies, with_items}
-use Rattle.lt_model.specs.Outside.{Memory}
+use Rattle.lt_model.specs.Log.{Change, Item, changes_of, is_item}
+use Rattle.lt_model.specs.declared.Format.{Format}
+use Rattle.lt_model.specs.declared.Format.TheVariants as format
+use Rattle.lt_model.specs.Machine.{AreFair, Does, PumpsFair, StreamAt, Stops, Takes, moved_by, refused, replies, with_items}
+use Rattle.lt_model.specs.Outside.{FeedState, Memory}
 use Rattle.lt_model.specs.Reply as model
 use Rattle.lt_model.specs.Schema.{Catalogue}
 use Rattle.lt_model.specs.Script.{do_pump}
 use Rattle.lt_parts.specs.declared.entry.PartEntry.{PartEntry}
 use Rattle.lt_pump.specs.Given.{AreBehind, all_given}
 use Rattle.lt_pump.specs.Positions as positions
-use Rattle.lt_pump.specs.Positions.{AreFair, bytes_behind}
+use Rattle.lt_pump.specs.Positions.{bytes_behind}
 use Rattle.lt_pump.specs.Pumps.{HasPumped, HasPumpedSome, streams_of}
 use Rattle.lt_pump.specs.View.{view_pumped, view_stop}
+use Rattle.lt_pump.specs.declared.position.Position.{Position}
 use Rattle.lt_pump.specs.declared.refusal.PumpFault.{PumpFault}
 use Rattle.lt_pump.specs.declared.refusal.PumpFault.TheVariants as faults
 use Rattle.lt_pump.specs.declared.stop.Pumped.{Pumped}
@@ -29,10 +33,10 @@ use Rattle.lt_reply.specs.declared.reply.Reply.{Reply}
 use Rattle.lt_steps.specs.Memory.{partitions}
 use Rattle.lt_engine.specs.Pumping.{KeepsParts}
 use Rattle.lt_engine.specs.State.{memory_of, part_of_entry, state_of, state_with}
-use Rattle.lt_engine.specs.Steps.{PumpFails, Stays, TakesLess, Took, TookFewer}
+use Rattle.lt_engine.specs.Steps.{HasTaken, PumpFails, Stays, TakesLess, Took, feed_fails, no_memory, refuses_pump}
 use Rattle.lt_engine.specs.declared.replica.Replica.{Replica}
 use Rattle.lt_engine.proofs.BehindLaws.{behind_at}
-use Rattle.lt_engine.proofs.PumpedState.{does_pump, known_there, lawful_items, pump_free, pump_unknown, same_state, state_behind, subs_are, subs_of}
+use Rattle.lt_engine.proofs.PumpedState.{does_pump, known_there, lawful_items, pump_free, pump_unknown, pumps_fair, same_state, state_behind, subs_are, subs_of}
 use Rattle.lt_engine.proofs.Results.{err_is}
 
 abbrev Subs : Type 0
@@ -41,7 +45,7 @@ Subs = List (Range × ℕ)
 held_behind : (r : Replica) (n : ℕ) (a : StreamAt) → slice_get (streams_of r.pump) n ≡ Some a → AreBehind a (memory_of r)
 held_behind r n a e = subst (λ (o : Option StreamAt). IfSome o (λ x. AreBehind x (memory_of r))) e (behind_at (streams_of r.pump) (memory_of r) r.behind n)
 
-state_after : (old new : Replica) (n : ℕ) (items : List Item) (a b : StreamAt) → KeepsParts old new → slice_get (streams_of old.pump) n ≡ Some a → streams_of new.pump ≡ slice_set (streams_of old.pump) n b → b ≡ moved_by items a → AreFair old.catalogue a items
+state_after : (old new : Replica) (n : ℕ) (items : List Item) (a b : StreamAt) → KeepsParts old new → slice_get (streams_of old.pump) n ≡ Some a → streams_of new.pump ≡ slice_set (streams_of old.pump) n b → b ≡ moved_by items a → positions.AreFair old.catalogue a items
     → memory_of new ≡ all_given (changes_of items) (partitions (state_of old)) (memory_of old) → state_of new ≡ with_items n items (state_of old)
 state_after old new n items a b k at moved is fair given =
     ap₂ (λ (c : Catalogue) (g : ℕ). state_with c g new.map (streams_of new.pump) (memory_of new)) k.catalogue k.generation
@@ -51,36 +55,43 @@ state_after old new n items a b k at moved is fair given =
 given_by : (old new : Replica) (subs : Subs) (items : List Item) → subs ≡ subs_of old.map → memory_of new ≡ all_given (changes_of items) subs (memory_of old) → memory_of new ≡ all_given (changes_of items) (partitions (state_of old)) (memory_of old)
 given_by old new subs items e g = g ∙ ap (λ (xs : Subs). all_given (changes_of items) xs (memory_of old)) (e ∙ subs_are old.catalogue old.generation old.map (streams_of old.pump) (memory_of old))
 
-took_of : (f : Feed) (old new : Replica) (n : ℕ) (subs : Subs) (a b : StreamAt) → KeepsParts old new → subs ≡ subs_of old.map → slice_get (streams_of old.pump) n ≡ Some a → streams_of new.pump ≡ slice_set (streams_of old.pump) n b
-    → (t : positions.Took (Some f) old.catalogue subs a b (memory_of old) (memory_of new)) → (x : Took f old new n) × (x.items ≡ t.items)
-took_of f old new n subs a b k e at moved t =
+-- the check of a stream of format 1 takes the same items
+fair_items : (cat : Catalogue) (a : StreamAt) (items : List Item) → a.header.format ≡ format.One → positions.AreFair cat a items → AreFair cat a items
+fair_items cat a [] one f = tt
+fair_items cat a (i ∷ items) one f = (subst (λ (x : Format). IsTrue (is_item x i)) (sym one) f.0, f.1, fair_items cat (moved_by (i ∷ []) a) items one f.2)
+
+-- each stream that a pump reads is of format 1
+format_one : (ps : List Position) (n : ℕ) (a : StreamAt) → slice_get (map positions.stream_of ps) n ≡ Some a → a.header.format ≡ format.One
+format_one [] n a e = absurd cc
+format_one (p ∷ ps) zero a e = ap (λ (x : StreamAt). x.header.format) (sym (same_Some (positions.stream_of p) a e))
+format_one (p ∷ ps) (suc n) a e = format_one ps n a e
+
+took_of : (told : Option Feed) (old new : Replica) (n : ℕ) (subs : Subs) (a b : StreamAt) → KeepsParts old new → subs ≡ subs_of old.map → slice_get (streams_of old.pump) n ≡ Some a → streams_of new.pump ≡ slice_set (streams_of old.pump) n b
+    → (t : positions.Took told old.catalogue subs a b (memory_of old) (memory_of new)) → (x : Took told old new n) × (x.items ≡ t.items)
+took_of told old new n subs a b k e at moved t =
     let given = given_by old new subs t.items e t.given in (
       record {
         stood = a;
         known = known_there n (streams_of old.pump) a old.pump.streams at;
         items = t.items;
-        rest = bytes_behind f b;
-        takes = t.takes;
+        fair = fair_items old.catalogue a t.items (format_one old.pump.positions.items n a at) t.fair;
         lawful = lawful_items old.catalogue a t.items t.fair;
         state = state_after old new n t.items a b k at moved t.moved t.fair given;
         memory = given;
+        takes = behind told t.takes;
       },
       refl,
     )
+  where
+    behind : (told : Option Feed) → IfSome told (λ f. Takes f old.catalogue a t.items (bytes_behind f b)) → IfSome told (λ f. (rest : List ℕ) × Takes f old.catalogue a t.items rest)
+    behind None h = tt
+    behind (Some f) h = (bytes_behind f b, h)
 
-pub pumped_took : (told : Option Feed) (old new : Replica) (n asked : ℕ) (subs : Subs) (p : Pumped) → KeepsParts old new → subs ≡ subs_of old.map
-    → HasPumped told old.catalogue n asked subs (streams_of old.pump) (streams_of new.pump) (memory_of old) (memory_of new) p → IfSome told (λ f. Took f old new n)
-pumped_took None old new n asked subs p k e h = tt
-pumped_took (Some f) old new n asked subs p k e h = (took_of f old new n subs h.stood h.stands k e h.known h.moved h.ran.took).0
-
-pub pumped_free : (told : Option Feed) (old new : Replica) (n asked count : ℕ) (subs : Subs) (p : Pumped) → HasPumped told old.catalogue n asked subs (streams_of old.pump) (streams_of new.pump) (memory_of old) (memory_of new) p → refused (state_of old) (do_pump n count) ≡ None
-pumped_free told old new n asked count subs p h = pump_free old.catalogue old.generation old.map (streams_of old.pump) (memory_of old) n count h.stood old.pump.streams h.known
-
-pub pumped_does : (told : Option Feed) (old new : Replica) (n asked : ℕ) (subs : Subs) (p : Pumped) → KeepsParts old new → subs ≡ subs_of old.map
+does_told : (told : Option Feed) (old new : Replica) (n asked : ℕ) (subs : Subs) (p : Pumped) → KeepsParts old new → subs ≡ subs_of old.map
     → HasPumped told old.catalogue n asked subs (streams_of old.pump) (streams_of new.pump) (memory_of old) (memory_of new) p
-    → IfSome told (λ f. (source : List Change) → Does f source (state_of old) (do_pump n asked) (replies (view_pumped n p)) (state_of new))
-pumped_does None old new n asked subs p k e h = tt
-pumped_does (Some f) old new n asked subs p k e h = λ source.
+    → (source : List Change) → IfSome told (λ f. Does f source (state_of old) (do_pump n asked) (replies (view_pumped n p)) (state_of new))
+does_told None old new n asked subs p k e h source = tt
+does_told (Some f) old new n asked subs p k e h source =
     let t = h.ran.took in
     let given = given_by old new subs t.items e t.given in
     does_pump f source (state_of old) (state_of new) n asked h.stood t.items (bytes_behind f h.stands) p (known_there n (streams_of old.pump) h.stood old.pump.streams h.known) (lawful_items old.catalogue h.stood t.items t.fair)
@@ -88,30 +99,34 @@ pumped_does (Some f) old new n asked subs p k e h = λ source.
     (subst (λ (b : StreamAt). Stops f old.catalogue b asked p.records (bytes_behind f h.stands) (view_stop p.stop)) t.moved h.ran.stops)
     (h.offset ∙ ap (λ (b : StreamAt). b.offset) t.moved) (h.checkpoint ∙ ap (λ (b : StreamAt). b.point.checkpoint) t.moved)
 
-fewer_if : (told : Option Feed) (old new : Replica) (n asked : ℕ) (subs : Subs) → KeepsParts old new → subs ≡ subs_of old.map
-    → HasPumpedSome told old.catalogue n asked subs (streams_of old.pump) (streams_of new.pump) (memory_of old) (memory_of new) → IfSome told (λ f. TookFewer f old new n asked)
-fewer_if None old new n asked subs k e h = tt
-fewer_if (Some f) old new n asked subs k e h =
-    let t = took_of f old new n subs h.stood h.stands k e h.known h.moved h.ran.took in
-    (t.0, subst (λ (items : List Item). length items < asked) (sym t.1) h.ran.fewer)
+does_fair : (told : Option Feed) (old new : Replica) (n asked : ℕ) (subs : Subs) (p : Pumped) → KeepsParts old new → subs ≡ subs_of old.map
+    → HasPumped told old.catalogue n asked subs (streams_of old.pump) (streams_of new.pump) (memory_of old) (memory_of new) p → PumpsFair (state_of old) n asked (replies (view_pumped n p)) (state_of new)
+does_fair told old new n asked subs p k e h =
+    let t = h.ran.took in
+    pumps_fair (state_of old) (state_of new) n asked h.stood t.items p (known_there n (streams_of old.pump) h.stood old.pump.streams h.known) (lawful_items old.catalogue h.stood t.items t.fair)
+    (fair_items old.catalogue h.stood t.items (format_one old.pump.positions.items n h.stood h.known) t.fair) (state_after old new n t.items h.stood h.stands k h.known h.moved t.moved t.fair (given_by old new subs t.items e t.given)) h.ran.number h.ran.few
+    (h.offset ∙ ap (λ (b : StreamAt). b.offset) t.moved) (h.checkpoint ∙ ap (λ (b : StreamAt). b.point.checkpoint) t.moved)
+
+pump_is_free : (told : Option Feed) (old new : Replica) (n asked count : ℕ) (subs : Subs) (p : Pumped) → HasPumped told old.catalogue n asked subs (streams_of old.pump) (streams_of new.pump) (memory_of old) (memory_of new) p → refused (state_of old) (do_pump n count) ≡ None
+pump_is_free told old new n asked count subs p h = pump_free old.catalogue old.generation old.map (streams_of old.pump) (memory_of old) n count h.stood old.pump.streams h.known
 
 pub takes_less : (told : Option Feed) (old new : Replica) (n asked : ℕ) (subs : Subs) → KeepsParts old new → subs ≡ subs_of old.map
     → HasPumpedSome told old.catalogue n asked subs (streams_of old.pump) (streams_of new.pump) (memory_of old) (memory_of new) → (refused (state_of old) (do_pump n asked) ≡ None) × TakesLess told old new n asked
 takes_less told old new n asked subs k e h =
-    let t = h.ran.took in
+    let t = took_of told old new n subs h.stood h.stands k e h.known h.moved h.ran.took in
     let free = pump_free old.catalogue old.generation old.map (streams_of old.pump) (memory_of old) n asked h.stood old.pump.streams h.known in
-    let after = state_after old new n t.items h.stood h.stands k h.known h.moved t.moved t.fair (given_by old new subs t.items e t.given) in
-    (free, inr (free, ap (λ (s : State). s.durable) after, fewer_if told old new n asked subs k e h))
+    (free, inr (free, (t.0, subst (λ (items : List Item). length items < asked) (sym t.1) h.ran.fewer)))
 
 -- ---- what a step answers
 
-pub done_of : (told : Option Feed) (old new : Replica) (n asked : ℕ) (subs : Subs) (p : Pumped) (reply : Reply) → KeepsParts old new → subs ≡ subs_of old.map
-    → HasPumped told old.catalogue n asked subs (streams_of old.pump) (streams_of new.pump) (memory_of old) (memory_of new) p → view_reply reply ≡ view_pumped n p
-    → (refused (state_of old) (do_pump n asked) ≡ None) × IfSome told (λ f. (source : List Change) → Does f source (state_of old) (do_pump n asked) (replies (view_reply reply)) (state_of new))
-done_of told old new n asked subs p reply k e h is = (
-  pumped_free told old new n asked asked subs p h,
-  subst (λ (r : model.Reply). IfSome told (λ f. (source : List Change) → Does f source (state_of old) (do_pump n asked) (replies r) (state_of new))) (sym is) (pumped_does told old new n asked subs p k e h),
-)
+pub has_taken : (told : Option Feed) (old new : Replica) (n asked : ℕ) (subs : Subs) (p : Pumped) (reply : Reply) → KeepsParts old new → subs ≡ subs_of old.map
+    → HasPumped told old.catalogue n asked subs (streams_of old.pump) (streams_of new.pump) (memory_of old) (memory_of new) p → view_reply reply ≡ view_pumped n p → HasTaken told old new n asked reply
+has_taken told old new n asked subs p reply k e h is = record {
+  free = pump_is_free told old new n asked asked subs p h;
+  took = (took_of told old new n subs h.stood h.stands k e h.known h.moved h.ran.took).0;
+  does = λ source. subst (λ (r : model.Reply). PumpsFair (state_of old) n asked (replies r) (state_of new) × IfSome told (λ f. Does f source (state_of old) (do_pump n asked) (replies r) (state_of new))) (sym is)
+      (does_fair told old new n asked subs p k e h, does_told told old new n asked subs p k e h source);
+}
 
 -- a stream that a call does not miss is there
 pub not_missed : (r : Result Pumped PumpFault) (e : PumpFault) (count n : ℕ) → (IsErrOf r faults.NoStream ↔ (count ≤ n)) → r ≡ Err e → (e ≡ faults.NoStream → ⊥) → n < count
@@ -120,20 +135,20 @@ not_missed r e count n missed is other = elim (cases_lt n count) [
   | inr l ↦ absurd (other (let same : Err e ≡ Err faults.NoStream = sym is ∙ missed.1 l in cc))
 ]
 
-pub fails_feed : (told : Option Feed) (before now : ℕ) (old new : Replica) (n asked : ℕ) (subs : Subs) → KeepsParts old new → subs ≡ subs_of old.map → Rose before now
-    → HasPumpedSome told old.catalogue n asked subs (streams_of old.pump) (streams_of new.pump) (memory_of old) (memory_of new) → PumpFails told before now old new n asked refusals.FeedFault
-fails_feed told before now old new n asked subs k e rose h = let t = takes_less told old new n asked subs k e h in (rose, t.0, t.1)
+pub fails_feed : (feed feed' : FeedState) (old new : Replica) (n asked : ℕ) (subs : Subs) → KeepsParts old new → subs ≡ subs_of old.map → Rose feed.faults feed'.faults
+    → HasPumpedSome feed'.told old.catalogue n asked subs (streams_of old.pump) (streams_of new.pump) (memory_of old) (memory_of new) → PumpFails feed feed' old new n asked refusals.FeedFault
+fails_feed feed feed' old new n asked subs k e rose h = let t = takes_less feed'.told old new n asked subs k e h in feed_fails refl rose t.0 t.1
 
-pub fails_memory : (told : Option Feed) (before now : ℕ) (old new : Replica) (n asked : ℕ) (subs : Subs) → KeepsParts old new → subs ≡ subs_of old.map → now ≡ before
-    → HasPumpedSome told old.catalogue n asked subs (streams_of old.pump) (streams_of new.pump) (memory_of old) (memory_of new) → PumpFails told before now old new n asked refusals.Memory
-fails_memory told before now old new n asked subs k e same h = (same, (takes_less told old new n asked subs k e h).1)
+pub fails_memory : (feed feed' : FeedState) (old new : Replica) (n asked : ℕ) (subs : Subs) → KeepsParts old new → subs ≡ subs_of old.map → feed'.faults ≡ feed.faults
+    → HasPumpedSome feed'.told old.catalogue n asked subs (streams_of old.pump) (streams_of new.pump) (memory_of old) (memory_of new) → PumpFails feed feed' old new n asked refusals.Memory
+fails_memory feed feed' old new n asked subs k e same h = no_memory refl same (takes_less feed'.told old new n asked subs k e h).1
 
-pub fails_unknown : (told : Option Feed) (before now : ℕ) (old new : Replica) (n asked : ℕ) → length (streams_of old.pump) ≤ n → now ≡ before → Stays old new → PumpFails told before now old new n asked (refusals.NoStream n)
-fails_unknown told before now old new n asked l same stays = (same, (tt, pump_unknown old.catalogue old.generation old.map (streams_of old.pump) (memory_of old) n asked old.pump.streams l), stays)
+pub fails_unknown : (feed feed' : FeedState) (old new : Replica) (n asked : ℕ) → length (streams_of old.pump) ≤ n → feed'.faults ≡ feed.faults → Stays old new → PumpFails feed feed' old new n asked (refusals.NoStream n)
+fails_unknown feed feed' old new n asked l same stays = refuses_pump same (tt, pump_unknown old.catalogue old.generation old.map (streams_of old.pump) (memory_of old) n asked old.pump.streams l) stays
 
--- memory is wanting before anything is done
-pub fails_first : (told : Option Feed) (faults : ℕ) (r : Replica) (n asked : ℕ) (result : Result Reply Refusal) → IsErrAnd result (λ e. e ≡ refusals.Memory) → IfErr result (PumpFails told faults faults r r n asked)
-fails_first told faults r n asked result h = err_is result refusals.Memory (PumpFails told faults faults r r n asked) h (refl, inl (record { state = refl; memory = refl }))
+-- memory ran out before anything was done
+pub fails_first : (feed : FeedState) (r : Replica) (n asked : ℕ) (result : Result Reply Refusal) → IsErrAnd result (λ e. e ≡ refusals.Memory) → IfErr result (PumpFails feed feed r r n asked)
+fails_first feed r n asked result h = err_is result refusals.Memory (PumpFails feed feed r r n asked) h (no_memory refl refl (inl (record { state = refl; memory = refl })))
 
 -- ---- what a pump leaves
 

@@ -1,18 +1,24 @@
 -- What the parts of a scan answer: whether it is safe, the rows of what is held, and how many of them a sink took.
-use Rattle.std.specs.Prelude.{Err, List, Option, Some, [], option_map, take, ℕ, ◌+◌, ◌≡◌}
+use Rattle.std.specs.Prelude.{Err, List, None, Option, Some, [], option_map, take, ℕ, ◌+◌, ◌++◌, ◌∷◌, ◌≡◌, ◌⊎◌}
 use Rattle.lt_model.specs.Key.{Range, key_bytes}
 use Rattle.lt_model.specs.Machine.{State, first_below}
-use Rattle.lt_model.specs.Outside.{Given, GivenUpTo}
+use Rattle.lt_model.specs.Outside.{Given, GivenUpTo, RowSinkState}
 use Rattle.lt_model.specs.Reply as model
+use Rattle.lt_command.specs.declared.command.Query.{Query}
+use Rattle.lt_model.specs.Query as queries
 use Rattle.lt_model.specs.Schema.{SchemaVersion, Table, table_numbered}
+use Rattle.lt_model.specs.Script.{plain_query}
 use Rattle.lt_model.specs.Value.{Value}
 use Rattle.lt_rows.specs.Scans.{AreShaped, RiseByKey, scan_rows}
-use Rattle.lt_scan.specs.declared.row_sink.RowRefusal.{RowRefusal}
-use Rattle.lt_scan.specs.declared.row_sink.RowRefusal.TheVariants as rows
+use Rattle.lt_io.specs.declared.row_sink.RowRefusal.{RowRefusal}
+use Rattle.lt_io.specs.declared.row_sink.RowRefusal.TheVariants as rows
 use Rattle.lt_steps.specs.Memory.{gone_over}
 use Rattle.lt_engine.specs.State.{memory_of}
-use Rattle.lt_engine.specs.Steps.{Sink}
 use Rattle.lt_engine.specs.declared.replica.Replica.{Replica}
+
+-- the rows that a query asks for by its table, version and timestamp alone
+abbrev pub plain : Query → queries.Query
+plain q = plain_query q.table q.version q.at None
 
 -- all keys of the table with a number
 abbrev pub table_keys : ℕ → Range
@@ -33,11 +39,12 @@ view_row_refusal rows.Fault = model.out_fault
 view_row_refusal rows.Memory = model.out_of_memory
 
 -- all rows were given, with no fault
-pub record GivesAll (before now : Sink) (all : List (List Value)) : Type 0 where
-  pub appended : Given before.spell before.told now.told before.rows now.rows all
+pub record GivesAll (before now : RowSinkState) (all : List (List Value)) : Type 0 where
+  pub appended : Given before now all
   pub kept : now.faults ≡ before.faults
 
 -- some first rows were given, before one was refused
-pub record GivesSome (before now : Sink) (all : List (List Value)) (e : RowRefusal) : Type 0 where
+pub record GivesSome (before now : RowSinkState) (all : List (List Value)) (e : RowRefusal) : Type 0 where
   pub number : ℕ
-  pub appended : GivenUpTo before.spell before.told now.told before.rows now.rows (take number all) (Err (view_row_refusal e))
+  pub appended : GivenUpTo before now (take number all) (Err (view_row_refusal e))
+  pub next : (appended.broken_off ≡ []) ⊎ (take number all ++ appended.next ∷ [] ≡ take (number + 1) all)

@@ -1,8 +1,10 @@
--- What a replica stands for: the machine's state, and what it holds in memory.
-use Rattle.std.specs.Prelude.{List, None, [], map, ℕ, ◌^◌}
+-- What a replica stands for: a session, whose state is the machine's, with what it holds in memory.
+use Rattle.std.specs.Prelude.{List, None, Option, Some, [], length, map, ℕ, ◌^◌, ◌≡◌, ◌≤◌}
 use Rattle.lt_model.specs.Machine.{State, StreamAt}
-use Rattle.lt_model.specs.Outside.{Memory, name_of}
+use Rattle.lt_model.specs.Outside.{FeedState, Memory, name_of}
+use Rattle.lt_model.specs.Run.{StartFault, no_store, start_damaged, start_disk, start_feed, start_mismatch, store_there}
 use Rattle.lt_model.specs.Schema.{Catalogue}
+use Rattle.lt_model.specs.Sound.{Session}
 use Rattle.lt_model.specs.Store.{Durable}
 use Rattle.lt_parts.specs.declared.entry.PartEntry.{PartEntry}
 use Rattle.lt_pending.specs.Held.{held_in}
@@ -37,6 +39,27 @@ memory_of r = map held_in r.parts.items
 
 abbrev pub state_of : Replica → State
 state_of r = state_with r.catalogue r.generation r.map (streams_of r.pump) (memory_of r)
+
+-- A replica stands for a session. While there is no store, where the session's parts stand on a disk is free.
+pub record StandsFor (r : Replica) (x : Session) : Type 0 where
+  -- the changes that its partitions hold
+  pub memory : x.memory ≡ memory_of r
+  -- the machine's state
+  pub state : x.state ≡ state_of r
+
+-- the feed has each stream that the replica reads
+abbrev pub IsFed : Replica → FeedState → Type 0
+IsFed r feed = length (streams_of r.pump) ≤ feed.known
+
+-- why no replica begins; out of memory is no cause
+abbrev pub view_start : StartRefusal → Option StartFault
+view_start start.NoStore = Some no_store
+view_start start.StoreThere = Some store_there
+view_start start.Disk = Some start_disk
+view_start start.Feed = Some start_feed
+view_start (start.Mismatch stream) = Some (start_mismatch stream)
+view_start (start.Damaged place length) = Some (start_damaged place length)
+view_start start.Memory = None
 
 -- why no replica begins, where no pump is made
 abbrev pub start_refusal : AttachRefusal → StartRefusal

@@ -1,12 +1,12 @@
 -- What a step does: what it answers, and what it leaves.
-use Rattle.std.specs.Prelude.{Err, IfSome, IsTrue, List, None, Ok, Option, Result, Some, length, take, ℕ, ⊤, ◌<◌, ◌≡◌, ◌⊎◌}
+use Rattle.std.specs.Prelude.{Err, IfSome, IsTrue, List, None, Ok, Option, Result, Some, [], length, take, ℕ, ⊤, ◌+◌, ◌++◌, ◌<◌, ◌∷◌, ◌≡◌, ◌⊎◌}
 use Rattle.std.specs.List.{AllByRecursion}
 use Rattle.lt_model.specs.declared.Format.TheVariants as format
 use Rattle.lt_model.specs.Disk.{Rose}
 use Rattle.lt_model.specs.Fair.{Feed}
 use Rattle.lt_model.specs.Log.{Change, Item, changes_of, is_item}
-use Rattle.lt_model.specs.Machine.{Answer, Does, Scans, StreamAt, Takes, cat_of, ranges_of, refused, replies, split_key, stream_at, with_items}
-use Rattle.lt_model.specs.Outside.{BelongsTo, Given, GivenUpTo, Memory}
+use Rattle.lt_model.specs.Machine.{AreFair, Answer, Does, DoesOver, Scans, StreamAt, Takes, cat_of, ranges_of, refused, replies, split_key, stream_at, with_items}
+use Rattle.lt_model.specs.Outside.{BelongsTo, FeedState, Given, GivenUpTo, Memory, RowSinkState}
 use Rattle.lt_model.specs.Query.{Literal, Query}
 use Rattle.lt_model.specs.Reply as model
 use Rattle.lt_model.specs.Schema.{Table, table_named}
@@ -37,10 +37,6 @@ Refuses o refusals.FeedFault = ⊥
 Refuses o refusals.OutFault = ⊥
 Refuses o e = IsSpoken e × (o ≡ Some (view_refusal e))
 
--- the state's refusal, or want of memory in its place
-abbrev pub RefusesAs : model.Refusal → Result model.Reply model.Refusal → Type 0
-RefusesAs r answer = (answer ≡ Err r) ⊎ (answer ≡ Err model.out_of_memory)
-
 -- the replica is as it was
 pub record Stays (old new : Replica) : Type 0 where
   pub state : state_of new ≡ state_of old
@@ -52,30 +48,36 @@ pub record Done (old new : Replica) (c : Command) (reply : Reply) (mem : Memory)
   pub does : (f : Feed) (source : List Change) → Does f source (state_of old) c (replies (view_reply reply)) (state_of new)
   pub memory : memory_of new ≡ mem
 
--- items were taken of a stream, and given to the partitions
-pub record Took (f : Feed) (old new : Replica) (n : ℕ) : Type 0 where
+-- Fair items were taken of a stream, and given to the partitions. Where the feed exposes its contents, they stand in it.
+pub record Took (told : Option Feed) (old new : Replica) (n : ℕ) : Type 0 where
   pub stood : StreamAt
   pub known : stream_at (state_of old) n ≡ Some stood
   pub items : List Item
-  pub rest : List ℕ
-  pub takes : Takes f (cat_of (state_of old)) stood items rest
+  pub fair : AreFair (cat_of (state_of old)) stood items
   pub lawful : AllByRecursion (λ i. IsTrue (is_item format.One i)) items
   pub state : state_of new ≡ with_items n items (state_of old)
   pub memory : memory_of new ≡ all_given (changes_of items) (partitions (state_of old)) (memory_of old)
+  pub takes : IfSome told (λ f. (rest : List ℕ) × Takes f (cat_of (state_of old)) stood items rest)
 
 -- fewer than were asked for
-abbrev pub TookFewer : Feed → Replica → Replica → ℕ → ℕ → Type 0
-TookFewer f old new n asked = (t : Took f old new n) × (length t.items < asked)
+abbrev pub TookFewer : Option Feed → Replica → Replica → ℕ → ℕ → Type 0
+TookFewer told old new n asked = (t : Took told old new n) × (length t.items < asked)
 
 -- A pump that fails leaves the replica as it was, or behind the records that it took.
 abbrev pub TakesLess : Option Feed → Replica → Replica → ℕ → ℕ → Type 0
-TakesLess told old new n asked = Stays old new ⊎ ((refused (state_of old) (do_pump n asked) ≡ None) × ((state_of new).durable ≡ (state_of old).durable) × IfSome told (λ f. TookFewer f old new n asked))
+TakesLess told old new n asked = Stays old new ⊎ ((refused (state_of old) (do_pump n asked) ≡ None) × TookFewer told old new n asked)
 
--- Why a pump is refused or fails, by the feed's count of faults before and now, and what it leaves.
-abbrev pub PumpFails : Option Feed → ℕ → ℕ → Replica → Replica → ℕ → ℕ → Refusal → Type 0
-PumpFails told before now old new n asked refusals.FeedFault = Rose before now × (refused (state_of old) (do_pump n asked) ≡ None) × TakesLess told old new n asked
-PumpFails told before now old new n asked refusals.Memory = (now ≡ before) × TakesLess told old new n asked
-PumpFails told before now old new n asked e = (now ≡ before) × Refuses (refused (state_of old) (do_pump n asked)) e × Stays old new
+-- a pump was done: what it answers is the machine's
+pub record HasTaken (told : Option Feed) (old new : Replica) (n asked : ℕ) (reply : Reply) : Type 0 where
+  pub free : refused (state_of old) (do_pump n asked) ≡ None
+  pub took : Took told old new n
+  pub does : (source : List Change) → DoesOver told source (state_of old) (do_pump n asked) (replies (view_reply reply)) (state_of new)
+
+-- Why a pump is refused or fails, by the feed before and now, and what it leaves.
+pub data PumpFails (feed feed' : FeedState) (old new : Replica) (n asked : ℕ) (e : Refusal) : Type 0 where
+  feed_fails : e ≡ refusals.FeedFault → Rose feed.faults feed'.faults → refused (state_of old) (do_pump n asked) ≡ None → TakesLess feed'.told old new n asked → PumpFails feed feed' old new n asked e
+  no_memory : e ≡ refusals.Memory → feed'.faults ≡ feed.faults → TakesLess feed'.told old new n asked → PumpFails feed feed' old new n asked e
+  refuses_pump : feed'.faults ≡ feed.faults → Refuses (refused (state_of old) (do_pump n asked)) e → Stays old new → PumpFails feed feed' old new n asked e
 
 -- a split parts what the partition of the key holds
 pub record Splits (old new : Replica) (name : List ℕ) (ls : List Literal) (reply : Reply) : Type 0 where
@@ -87,32 +89,26 @@ pub record Splits (old new : Replica) (name : List ℕ) (ls : List Literal) (rep
 abbrev pub AreRows : Replica → Query → List (List Value) → Type 0
 AreRows r q rows = (f : Feed) → (b : BelongsTo f (state_of r) (memory_of r)) → Scans (source_of b.0) (state_of r) q rows
 
--- what a row sink tells and counts
-pub record Sink : Type 0 where
-  pub spell : List Value → List ℕ
-  pub told : Option (List ℕ)
-  pub rows : Option (List (List Value))
-  pub faults : ℕ
-
 -- all rows were given
-pub record Scanned (r : Replica) (q : Query) (before now : Sink) (reply : Reply) : Type 0 where
+pub record Scanned (r : Replica) (q : Query) (before now : RowSinkState) (reply : Reply) : Type 0 where
   pub free : refused (state_of r) (do_scan q) ≡ None
   pub given : List (List Value)
-  pub appended : Given before.spell before.told now.told before.rows now.rows given
+  pub appended : Given before now given
   pub reply_is : view_reply reply ≡ model.scan_done (length given)
   pub are_rows : AreRows r q given
   pub kept : now.faults ≡ before.faults
 
--- some first rows were given, before the sink failed or memory was wanting
-pub record BreaksOff (r : Replica) (q : Query) (before now : Sink) (e : Refusal) : Type 0 where
+-- some first rows were given, before the sink failed or memory ran out
+pub record BreaksOff (r : Replica) (q : Query) (before now : RowSinkState) (e : Refusal) : Type 0 where
   pub free : refused (state_of r) (do_scan q) ≡ None
   pub all : List (List Value)
   pub number : ℕ
-  pub appended : GivenUpTo before.spell before.told now.told before.rows now.rows (take number all) (Err (view_refusal e))
+  pub appended : GivenUpTo before now (take number all) (Err (view_refusal e))
+  pub next : (appended.broken_off ≡ []) ⊎ (take number all ++ appended.next ∷ [] ≡ take (number + 1) all)
   pub are_rows : AreRows r q all
 
 -- Why a scan is refused or breaks off.
-abbrev pub ScanFails : Replica → Query → Sink → Sink → Refusal → Type 0
-ScanFails r q before now refusals.OutFault = Rose before.faults now.faults × BreaksOff r q before now refusals.OutFault
-ScanFails r q before now refusals.Memory = (now.faults ≡ before.faults) × ((now ≡ before) ⊎ BreaksOff r q before now refusals.Memory)
-ScanFails r q before now e = (now ≡ before) × Refuses (refused (state_of r) (do_scan q)) e
+pub data ScanFails (r : Replica) (q : Query) (before now : RowSinkState) (e : Refusal) : Type 0 where
+  sink_fails : e ≡ refusals.OutFault → Rose before.faults now.faults → BreaksOff r q before now refusals.OutFault → ScanFails r q before now e
+  breaks_off : e ≡ refusals.Memory → now.faults ≡ before.faults → BreaksOff r q before now refusals.Memory → ScanFails r q before now e
+  refuses_scan : now ≡ before → Refuses (refused (state_of r) (do_scan q)) e → ScanFails r q before now e

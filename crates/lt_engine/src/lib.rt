@@ -13,11 +13,14 @@ mod schema;
 mod splitting;
 mod status;
 
-pub use lt_command::{Command, Query};
+pub use lt_command::{Command, Mode, Query};
 pub use lt_disk::Disk;
 pub use lt_io::Feed;
-pub use lt_pred::{Literal, Literals};
-pub use lt_reply::{Cause, PartLine, PartLines, Refusal, Reply, Stop, StreamLine, StreamLines};
+pub use lt_pred::{CmpOp, Literal, Literals, NameList, Pred};
+pub use lt_reply::{
+    Cause, DeltaLine, DeltaLines, PartLine, PartLines, Progress, Refusal, Reply, Stop, StreamLine,
+    StreamLines,
+};
 pub use lt_scan::{RowRefusal, RowSink};
 pub use lt_schema::Catalogue;
 pub use refusal::StartRefusal;

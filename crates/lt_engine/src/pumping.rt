@@ -2,18 +2,15 @@
 
 ghost use Rattle.std.specs.Prelude.{◌≡◌, ◌<◌, ◌≤◌, ◌++◌, ◌∷◌, ◌↔◌, [], List, None, IfErr, IfOk, IfSome, IsErrOf, OnErr, OnOk, length, map as mapped, slice_get, zip};
 ghost use Rattle.lt_model.specs.Disk.{Rose};
-ghost use Rattle.lt_model.specs.Log.{Change};
-ghost use Rattle.lt_model.specs.Machine.{Does, refused, replies};
-ghost use Rattle.lt_model.specs.Script.{do_pump};
 ghost use Rattle.lt_parts.specs.Parts.{AreParts, ranges};
 ghost use Rattle.lt_pending.specs.Held.{held_in};
-ghost use Rattle.lt_pump.specs.Feeds.{FeedGoes};
+ghost use Rattle.lt_model.specs.Outside.{FeedGoes};
 ghost use Rattle.lt_pump.specs.Given.{AreAllBehind, AreSubscriptions};
 ghost use Rattle.lt_pump.specs.Pumps.{HasPumped, HasPumpedSome, streams_of};
 ghost use Rattle.lt_pump.specs.View.{view_pumped, view_subscription};
 ghost use Rattle.lt_reply.specs.View.{view_reply};
-ghost use Rattle.lt_engine.specs.State.{memory_of, state_of};
-ghost use Rattle.lt_engine.specs.Steps.{PumpFails, Stays, Took};
+ghost use Rattle.lt_engine.specs.State.{memory_of};
+ghost use Rattle.lt_engine.specs.Steps.{PumpFails, HasTaken, Stays};
 ghost use Rattle.lt_engine.specs.Pumping.{KeepsParts};
 
 use crate::delivery::Delivery;
@@ -37,13 +34,13 @@ impl Replica {
         count: u64,
         feed: &mut F,
     ) -> Result<Reply, Refusal>
-        requires known { length (streams_of self.old.pump) ≤ F.known feed.old }
-        ensures done { IfOk result (λ reply. (refused (state_of self.old) (do_pump stream count) ≡ None) × IfSome (F.told feed.new) (λ f. (source : List Change) → Does f source (state_of self.old) (do_pump stream count) (replies (view_reply reply)) (state_of self.new))) }
-        ensures took { OnOk result (IfSome (F.told feed.new) (λ f. Took f self.old self.new stream)) }
-        ensures refused { IfErr result (PumpFails (F.told feed.new) (F.faults feed.old) (F.faults feed.new) self.old self.new stream count) }
-        ensures kept { OnOk result (F.faults feed.new ≡ F.faults feed.old) }
+        requires known { length (streams_of self.old.pump) ≤ (F.state feed.old).known }
+        ensures pumped { IfOk result (HasTaken (F.state feed.new).told self.old self.new stream count) }
+        ensures called { OnOk result (0 < count → Rose (F.state feed.old).calls (F.state feed.new).calls) }
+        ensures refused { IfErr result (PumpFails (F.state feed.old) (F.state feed.new) self.old self.new stream count) }
+        ensures kept { OnOk result ((F.state feed.new).faults ≡ (F.state feed.old).faults) }
         ensures streams { length (streams_of self.new.pump) ≡ length (streams_of self.old.pump) }
-        ensures feed { FeedGoes (F.told feed.old) (F.told feed.new) (F.known feed.old) (F.known feed.new) (F.faults feed.old, F.calls feed.old) (F.faults feed.new, F.calls feed.new) }
+        ensures feed { FeedGoes (F.state feed.old) (F.state feed.new) }
     {
         let subs = self.subscriptions()?;
         match self.take_into(stream, count, feed, &subs) {
@@ -62,19 +59,20 @@ impl Replica {
         feed: &mut F,
         subs: &Subscriptions,
     ) -> Result<Pumped, PumpFault>
-        requires known { length (streams_of self.old.pump) ≤ F.known feed.old }
+        requires known { length (streams_of self.old.pump) ≤ (F.state feed.old).known }
         requires subs { mapped view_subscription subs.now ≡ zip (ranges self.old.map) (mapped (λ e. e.resume) self.old.map) }
         requires lawful { AreParts self.old.map }
-        ensures pumped { IfOk result (HasPumped (F.told feed.new) self.old.catalogue stream count (mapped view_subscription subs.now) (streams_of self.old.pump) (streams_of self.new.pump) (memory_of self.old) (memory_of self.new)) }
-        ensures some { stream < length (streams_of self.old.pump) → OnErr result (HasPumpedSome (F.told feed.new) self.old.catalogue stream count (mapped view_subscription subs.now) (streams_of self.old.pump) (streams_of self.new.pump) (memory_of self.old) (memory_of self.new)) }
+        ensures pumped { IfOk result (HasPumped (F.state feed.new).told self.old.catalogue stream count (mapped view_subscription subs.now) (streams_of self.old.pump) (streams_of self.new.pump) (memory_of self.old) (memory_of self.new)) }
+        ensures some { stream < length (streams_of self.old.pump) → OnErr result (HasPumpedSome (F.state feed.new).told self.old.catalogue stream count (mapped view_subscription subs.now) (streams_of self.old.pump) (streams_of self.new.pump) (memory_of self.old) (memory_of self.new)) }
         ensures stays { KeepsParts self.old self.new }
         ensures streams { length (streams_of self.new.pump) ≡ length (streams_of self.old.pump) }
         ensures no_stream { IsErrOf result PumpFault.NoStream ↔ (length (streams_of self.old.pump) ≤ stream) }
         ensures untouched { length (streams_of self.old.pump) ≤ stream → (feed.new ≡ feed.old) × Stays self.old self.new }
-        ensures fault { IsErrOf result PumpFault.Feed → Rose (F.faults feed.old) (F.faults feed.new) }
-        ensures kept { OnOk result (F.faults feed.new ≡ F.faults feed.old) }
-        ensures lacks { IsErrOf result PumpFault.Memory → F.faults feed.new ≡ F.faults feed.old }
-        ensures feed { FeedGoes (F.told feed.old) (F.told feed.new) (F.known feed.old) (F.known feed.new) (F.faults feed.old, F.calls feed.old) (F.faults feed.new, F.calls feed.new) }
+        ensures fault { IsErrOf result PumpFault.Feed → Rose (F.state feed.old).faults (F.state feed.new).faults }
+        ensures kept { OnOk result ((F.state feed.new).faults ≡ (F.state feed.old).faults) }
+        ensures lacks { IsErrOf result PumpFault.Memory → (F.state feed.new).faults ≡ (F.state feed.old).faults }
+        ensures called { OnOk result (0 < count → Rose (F.state feed.old).calls (F.state feed.new).calls) }
+        ensures feed { FeedGoes (F.state feed.old) (F.state feed.new) }
     {
         let pumped = pump_into(
             &mut self.pump,
@@ -113,20 +111,21 @@ fn pump_into<F: Feed>(
     feed: &mut F,
     subs: &Subscriptions,
 ) -> Result<Pumped, PumpFault>
-    requires known { length (streams_of pump.old) ≤ F.known feed.old }
+    requires known { length (streams_of pump.old) ≤ (F.state feed.old).known }
     requires subs { AreSubscriptions (mapped view_subscription subs.now) (mapped held_in parts.old.items) }
     requires behind { AreAllBehind (streams_of pump.old) (mapped held_in parts.old.items) }
-    ensures pumped { IfOk result (HasPumped (F.told feed.new) catalogue.now stream count (mapped view_subscription subs.now) (streams_of pump.old) (streams_of pump.new) (mapped held_in parts.old.items) (mapped held_in parts.new.items)) }
-    ensures some { stream < length (streams_of pump.old) → OnErr result (HasPumpedSome (F.told feed.new) catalogue.now stream count (mapped view_subscription subs.now) (streams_of pump.old) (streams_of pump.new) (mapped held_in parts.old.items) (mapped held_in parts.new.items)) }
+    ensures pumped { IfOk result (HasPumped (F.state feed.new).told catalogue.now stream count (mapped view_subscription subs.now) (streams_of pump.old) (streams_of pump.new) (mapped held_in parts.old.items) (mapped held_in parts.new.items)) }
+    ensures some { stream < length (streams_of pump.old) → OnErr result (HasPumpedSome (F.state feed.new).told catalogue.now stream count (mapped view_subscription subs.now) (streams_of pump.old) (streams_of pump.new) (mapped held_in parts.old.items) (mapped held_in parts.new.items)) }
     ensures behind { AreAllBehind (streams_of pump.new) (mapped held_in parts.new.items) }
     ensures streams { length (streams_of pump.new) ≡ length (streams_of pump.old) }
     ensures lists { length parts.new.items ≡ length parts.old.items }
     ensures no_stream { IsErrOf result PumpFault.NoStream ↔ (length (streams_of pump.old) ≤ stream) }
     ensures untouched { length (streams_of pump.old) ≤ stream → (feed.new ≡ feed.old) × (streams_of pump.new ≡ streams_of pump.old) × (mapped held_in parts.new.items ≡ mapped held_in parts.old.items) }
-    ensures fault { IsErrOf result PumpFault.Feed → Rose (F.faults feed.old) (F.faults feed.new) }
-    ensures kept { OnOk result (F.faults feed.new ≡ F.faults feed.old) }
-    ensures lacks { IsErrOf result PumpFault.Memory → F.faults feed.new ≡ F.faults feed.old }
-    ensures feed { FeedGoes (F.told feed.old) (F.told feed.new) (F.known feed.old) (F.known feed.new) (F.faults feed.old, F.calls feed.old) (F.faults feed.new, F.calls feed.new) }
+    ensures fault { IsErrOf result PumpFault.Feed → Rose (F.state feed.old).faults (F.state feed.new).faults }
+    ensures kept { OnOk result ((F.state feed.new).faults ≡ (F.state feed.old).faults) }
+    ensures lacks { IsErrOf result PumpFault.Memory → (F.state feed.new).faults ≡ (F.state feed.old).faults }
+    ensures called { OnOk result (0 < count → Rose (F.state feed.old).calls (F.state feed.new).calls) }
+    ensures feed { FeedGoes (F.state feed.old) (F.state feed.new) }
 {
     let empty = Vec::new(*parts.allocator());
     let mut to = Delivery {

@@ -12,6 +12,15 @@ use thiserror::Error;
 /// Why no replica begins.
 #[derive(Clone, Copy, Debug, PartialEq, Eq, Error)]
 pub enum StartRefusal {
+    /// There is no store: no gate of a root slot is open.
+    #[error("there is no store")]
+    NoStore,
+    /// There is a store already.
+    #[error("there is a store already")]
+    StoreThere,
+    /// A call of the disk failed.
+    #[error("the disk failed")]
+    Disk,
     /// A call of the feed failed.
     #[error("the feed failed")]
     Feed,
@@ -19,6 +28,9 @@ pub enum StartRefusal {
     /// whose header does not fit.
     #[error("stream {stream} does not fit")]
     Mismatch { stream: u32 },
+    /// The store's bytes at this place are damaged, in bytes from the start of the file.
+    #[error("damaged at {place}, {length} bytes")]
+    Damaged { place: u64, length: u64 },
     #[error("out of memory")]
     Memory,
 }

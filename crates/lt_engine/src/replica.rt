@@ -1,6 +1,6 @@
 //! The replica, and one step of it.
 
-ghost use Rattle.std.specs.Prelude.{◌≡◌, IfSome, IsTrue, length, map as mapped};
+ghost use Rattle.std.specs.Prelude.{◌≡◌, ◌&&◌, IsTrue, length, map as mapped};
 ghost use Rattle.lt_pending.specs.Held.{held_in};
 ghost use Rattle.lt_pump.specs.Pumps.{streams_of};
 ghost use Rattle.lt_engine.specs.Behind.{are_behind};
@@ -36,21 +36,15 @@ pub struct Replica {
 }
 
 impl Replica {
-    ghost use Rattle.std.specs.Prelude.{◌∷◌, ◌<◌, ◌≤◌, [], ℕ, Err, List, None, IfErr, IfOk, IsErrOf, OnOk, false};
-    ghost use Rattle.lt_model.specs.Disk.{Rose};
-    ghost use Rattle.lt_model.specs.Log.{Change, Header};
-    ghost use Rattle.lt_model.specs.Reply.{feed_fault};
-    ghost use Rattle.lt_model.specs.InMemory.{causes_between, session_over};
-    ghost use Rattle.lt_model.specs.Machine.{Does, query_of, refused, replies};
-    ghost use Rattle.lt_model.specs.Outside.{BelongsTo, GivenUpTo, StaysBut, StaysTold, caused_by, is_command};
-    ghost use Rattle.lt_model.specs.Run.{Answers, Attaches, IsMismatch, calls_feed, is_fault};
-    ghost use Rattle.lt_model.specs.Value.{Value};
+    ghost use Rattle.std.specs.Prelude.{◌≡◌, IfErr, IfOk};
+    ghost use Rattle.lt_model.specs.InMemory.{is_built, on_memory};
+    ghost use Rattle.lt_model.specs.Outside.{FeedGoes, WorldGoes, is_command, world_of};
+    ghost use Rattle.lt_model.specs.Sound.{Session};
+    ghost use Rattle.lt_model.specs.Step.{NotStarted, Started, Stepped};
     ghost use Rattle.lt_command.specs.View.{view_command};
-    ghost use Rattle.lt_pump.specs.Feeds.{FeedGoes};
-    ghost use Rattle.lt_reply.specs.View.{IsSpoken, view_refusal, view_reply};
-    ghost use Rattle.lt_engine.specs.State.{memory_of, state_of};
-    ghost use Rattle.lt_engine.specs.Stepped.{Stepped};
-    ghost use Rattle.lt_engine.specs.Steps.{RefusesAs, answer_of, with_rows};
+    ghost use Rattle.lt_reply.specs.View.{IsSpoken};
+    ghost use Rattle.lt_engine.specs.State.{IsFed, StandsFor, memory_of, state_of, view_start};
+    ghost use Rattle.lt_engine.specs.Steps.{answer_of};
 
     /// A fresh replica, which stands behind the headers of the feed's streams. The disk is left alone.
     pub fn start<D: Disk, F: Feed>(
@@ -58,15 +52,15 @@ impl Replica {
         disk: &mut D,
         feed: &mut F,
     ) -> Result<Replica, StartRefusal>
-        ensures started { IfOk result (λ r. IfSome (F.told feed.new) (λ f. (hs : List Header) × Attaches f None hs × (state_of r ≡ session_over hs))) }
-        ensures held { IfOk result (λ r. memory_of r ≡ [] ∷ []) }
-        ensures belongs { IfOk result (λ r. IfSome (F.told feed.new) (λ f. BelongsTo f (state_of r) (memory_of r))) }
-        ensures known { IfOk result (λ r. length (state_of r).streams ≤ F.known feed.new) }
-        ensures mismatch { IfErr result (λ e. (n : ℕ) → e ≡ StartRefusal.Mismatch n → (F.faults feed.new ≡ F.faults feed.old) × IfSome (F.told feed.new) (λ f. IsMismatch f None n)) }
-        ensures fault { IsErrOf result StartRefusal.Feed → Rose (F.faults feed.old) (F.faults feed.new) }
-        ensures kept { OnOk result (F.faults feed.new ≡ F.faults feed.old) }
-        ensures disk { disk.new ≡ disk.old }
-        ensures feed { FeedGoes (F.told feed.old) (F.told feed.new) (F.known feed.old) (F.known feed.new) (F.faults feed.old, F.calls feed.old) (F.faults feed.new, F.calls feed.new) }
+        // A session began, which serves the feed.
+        ensures started { IfOk result (λ r. (x : Session) × StandsFor r x × IsFed r (F.state feed.new)
+            × Started on_memory (D.state disk.old) (D.state disk.new) (F.state feed.old) (F.state feed.new) x) }
+
+        // None began, by its cause.
+        ensures refused { IfErr result (λ e. NotStarted on_memory (D.state disk.old) (D.state disk.new) (F.state feed.old) (F.state feed.new) (view_start e)) }
+
+        // The disk was not used, and the feed went on.
+        ensures goes { (disk.new ≡ disk.old) × FeedGoes (F.state feed.old) (F.state feed.new) }
     {
         let _ = disk;
         let pump = Pump::attach(alloc, feed, None)?;
@@ -85,7 +79,7 @@ impl Replica {
 
     /// The versions that were registered.
     pub fn catalogue(&self) -> &Catalogue
-        ensures { result.now ≡ (state_of self.now).durable.catalogue }
+        ensures { (x : Session) → StandsFor self.now x → result.now ≡ x.state.durable.catalogue }
     {
         &self.catalogue
     }
@@ -99,55 +93,23 @@ impl Replica {
         feed: &mut F,
         rows: &mut R,
     ) -> Result<Reply, Refusal>
-        requires streams { length (state_of self.old).streams ≤ F.known feed.old }
-        requires command { IsTrue (is_command (view_command command.now)) }
+        requires fed { IsFed self.old (F.state feed.old) }
+        requires command { IsTrue (is_command (view_command command.now) && is_built (view_command command.now)) }
 
-        // The answer is the machine's, over the feed as it stands on return, or a fault by its cause; the rows given are those of the answer.
-        ensures machine { IfSome (F.told feed.new) (λ f. BelongsTo f (state_of self.old) (memory_of self.old)
-            → (given : List (List Value)) × GivenUpTo (R.spell rows.old) (R.told rows.old) (R.told rows.new) (R.rows rows.old) (R.rows rows.new) given (answer_of result)
-            × Answers (caused_by (causes_between (F.faults feed.old) (F.faults feed.new) (R.faults rows.old) (R.faults rows.new))) f (state_of self.old) (view_command command.now) (with_rows given result) (state_of self.new)) }
+        // It led from the session that the replica stood for to the one that it stands for now.
+        ensures stepped { (x : Session) → StandsFor self.old x → (y : Session) × StandsFor self.new y
+            × Stepped on_memory (world_of (D.state disk.old) (F.state feed.old) (R.state rows.old))
+            (world_of (D.state disk.new) (F.state feed.new) (R.state rows.new)) x y (view_command command.now) (answer_of result) }
 
-        // Afterwards all that was asked holds again.
-        ensures belongs { IfSome (F.told feed.new) (λ f. BelongsTo f (state_of self.old) (memory_of self.old) → BelongsTo f (state_of self.new) (memory_of self.new)) }
-
-        // Whatever the session belongs to: what a command other than a scan does.
-        ensures done { IfSome (F.told feed.new) (λ f. (source : List Change) → query_of (view_command command.now) ≡ None → IfOk result (λ reply. Does f source (state_of self.old) (view_command command.now) (replies (view_reply reply)) (state_of self.new))) }
-
-        // Whatever the feed tells: the first refusal that the state decides, each fault by its cause, and what a refusal keeps.
-        ensures refused { IfSome (refused (state_of self.old) (view_command command.now)) (λ r. RefusesAs r (answer_of result) × (state_of self.new ≡ state_of self.old)) }
+        // The next step may follow, and the refusal can be printed.
+        ensures fed { IsFed self.new (F.state feed.new) }
         ensures spoken { IfErr result IsSpoken }
-        ensures causes { IfErr result (λ e. IsTrue (is_fault (view_refusal e)) → caused_by (causes_between (F.faults feed.old) (F.faults feed.new) (R.faults rows.old) (R.faults rows.new)) (view_refusal e)) }
-        ensures feed_failed { F.faults feed.old < F.faults feed.new → answer_of result ≡ Err feed_fault }
-        ensures kept { IfErr result (λ e. StaysBut (view_command command.now) (view_refusal e) (state_of self.old) (state_of self.new)) }
 
-        // The feed is called by a pump alone, and the disk by no command.
-        ensures quiet { calls_feed (view_command command.now) ≡ false → feed.new ≡ feed.old }
-        ensures known { length (state_of self.new).streams ≤ F.known feed.new }
-        ensures disk { disk.new ≡ disk.old }
-        ensures feed { FeedGoes (F.told feed.old) (F.told feed.new) (F.known feed.old) (F.known feed.new) (F.faults feed.old, F.calls feed.old) (F.faults feed.new, F.calls feed.new) }
-        ensures row_sink { StaysTold (R.told rows.old) (R.told rows.new) × StaysTold (R.rows rows.old) (R.rows rows.new) × (R.spell rows.new ≡ R.spell rows.old) }
-        ensures later { R.faults rows.old ≤ R.faults rows.new }
-        ensures succeeded { OnOk result ((F.faults feed.new ≡ F.faults feed.old) × (R.faults rows.new ≡ R.faults rows.old)) }
+        // The disk was not used, and the feed and the row sink went on.
+        ensures goes { (disk.new ≡ disk.old) × WorldGoes (world_of (D.state disk.old) (F.state feed.old) (R.state rows.old))
+            (world_of (D.state disk.new) (F.state feed.new) (R.state rows.new)) }
     {
         let _ = disk;
-        self.answer(command, feed, rows)
-    }
-
-    /// Answers a command by the function for it.
-    fn answer<F: Feed, R: RowSink>(
-        &mut self,
-        command: &Command,
-        feed: &mut F,
-        rows: &mut R,
-    ) -> Result<Reply, Refusal>
-        requires streams { length (streams_of self.old.pump) ≤ F.known feed.old }
-        ensures stepped { Stepped (F.told feed.new) (F.faults feed.old) (F.faults feed.new) (record { spell = R.spell rows.old; told = R.told rows.old; rows = R.rows rows.old; faults = R.faults rows.old }) (record { spell = R.spell rows.new; told = R.told rows.new; rows = R.rows rows.new; faults = R.faults rows.new }) self.old self.new (view_command command.now) result }
-        ensures quiet { calls_feed (view_command command.now) ≡ false → feed.new ≡ feed.old }
-        ensures known { length (streams_of self.new.pump) ≤ F.known feed.new }
-        ensures feed { FeedGoes (F.told feed.old) (F.told feed.new) (F.known feed.old) (F.known feed.new) (F.faults feed.old, F.calls feed.old) (F.faults feed.new, F.calls feed.new) }
-        ensures row_sink { StaysTold (R.told rows.old) (R.told rows.new) × StaysTold (R.rows rows.old) (R.rows rows.new) × (R.spell rows.new ≡ R.spell rows.old) }
-        ensures later { R.faults rows.old ≤ R.faults rows.new }
-    {
         match command {
             Command::Schema(text) => self.schema(text.as_slice()),
             Command::Retire { table, version } => self.retire(table, *version),
@@ -155,6 +117,8 @@ impl Replica {
             Command::Split { table, key } => self.split(table, key),
             Command::Scan(query) => self.scan(query, rows),
             Command::Status => self.status(),
+            // No other command is built.
+            _ => unreachable!(),
         }
     }
 

@@ -1,16 +1,15 @@
 //! The command that scans a table at a timestamp.
 
 ghost use Rattle.std.specs.Prelude.{◌≡◌, ◌≤◌, ◌<◌, ◌+◌, ◌^◌, IfErr, IfOk, MatchResult, None, OnOk, Some, map};
-ghost use Rattle.lt_command.specs.View.{view_query};
 ghost use Rattle.lt_core.specs.View.{view_row};
 ghost use Rattle.lt_model.specs.Disk.{Rose};
 ghost use Rattle.lt_model.specs.Machine.{refused};
-ghost use Rattle.lt_model.specs.Outside.{StaysTold};
+ghost use Rattle.lt_model.specs.Outside.{RowSinkGoes};
 ghost use Rattle.lt_model.specs.Script.{do_scan};
 ghost use Rattle.lt_reply.specs.View.{view_refusal};
 ghost use Rattle.lt_schema.specs.View.{view_version};
 ghost use Rattle.lt_engine.specs.Answers.{Finds};
-ghost use Rattle.lt_engine.specs.Scans.{GivesAll, GivesSome, ReadsHeld, table_keys, unsafe_at, view_row_refusal};
+ghost use Rattle.lt_engine.specs.Scans.{GivesAll, GivesSome, ReadsHeld, plain, table_keys, unsafe_at, view_row_refusal};
 ghost use Rattle.lt_engine.specs.State.{state_of};
 ghost use Rattle.lt_engine.specs.Steps.{AreRows, Refuses, ScanFails, Scanned};
 
@@ -25,10 +24,9 @@ use lt_schema::SchemaVersion;
 impl Replica {
     /// Gives the rows that a query asks for, and tells how many.
     pub(crate) fn scan<R: RowSink>(&self, query: &Query, rows: &mut R) -> Result<Reply, Refusal>
-        ensures done { IfOk result (Scanned self.now (view_query query.now) (record { spell = R.spell rows.old; told = R.told rows.old; rows = R.rows rows.old; faults = R.faults rows.old }) (record { spell = R.spell rows.new; told = R.told rows.new; rows = R.rows rows.new; faults = R.faults rows.new })) }
-        ensures refused { IfErr result (ScanFails self.now (view_query query.now) (record { spell = R.spell rows.old; told = R.told rows.old; rows = R.rows rows.old; faults = R.faults rows.old }) (record { spell = R.spell rows.new; told = R.told rows.new; rows = R.rows rows.new; faults = R.faults rows.new })) }
-        ensures stays { StaysTold (R.told rows.old) (R.told rows.new) × StaysTold (R.rows rows.old) (R.rows rows.new) × (R.spell rows.new ≡ R.spell rows.old) }
-        ensures later { R.faults rows.old ≤ R.faults rows.new }
+        ensures done { IfOk result (Scanned self.now (plain query.now) (R.state rows.old) (R.state rows.new)) }
+        ensures refused { IfErr result (ScanFails self.now (plain query.now) (R.state rows.old) (R.state rows.new)) }
+        ensures goes { RowSinkGoes (R.state rows.old) (R.state rows.new) }
     {
         let found = self.find_rows(query)?;
         match give(&found, rows) {
@@ -41,9 +39,9 @@ impl Replica {
 
     /// The rows that a query asks for.
     fn find_rows(&self, query: &Query) -> Result<List<Row>, Refusal>
-        ensures free { OnOk result (refused (state_of self.now) (do_scan (view_query query.now)) ≡ None) }
-        ensures rows { IfOk result (λ rows. AreRows self.now (view_query query.now) (map view_row rows)) }
-        ensures refused { IfErr result (Refuses (refused (state_of self.now) (do_scan (view_query query.now)))) }
+        ensures free { OnOk result (refused (state_of self.now) (do_scan (plain query.now)) ≡ None) }
+        ensures rows { IfOk result (λ rows. AreRows self.now (plain query.now) (map view_row rows)) }
+        ensures refused { IfErr result (Refuses (refused (state_of self.now) (do_scan (plain query.now)))) }
     {
         let version = self.live_version(query)?;
         self.test_safe(version.number, query.at)?;
@@ -111,12 +109,11 @@ impl Replica {
 
 /// Gives rows in their order.
 fn give<R: RowSink>(found: &List<Row>, rows: &mut R) -> Result<(), RowRefusal>
-    ensures all { OnOk result (GivesAll (record { spell = R.spell rows.old; told = R.told rows.old; rows = R.rows rows.old; faults = R.faults rows.old }) (record { spell = R.spell rows.new; told = R.told rows.new; rows = R.rows rows.new; faults = R.faults rows.new }) (map view_row found.now)) }
-    ensures some { IfErr result (GivesSome (record { spell = R.spell rows.old; told = R.told rows.old; rows = R.rows rows.old; faults = R.faults rows.old }) (record { spell = R.spell rows.new; told = R.told rows.new; rows = R.rows rows.new; faults = R.faults rows.new }) (map view_row found.now)) }
-    ensures cause { IfErr result (λ e. e ≡ RowRefusal.Fault → Rose (R.faults rows.old) (R.faults rows.new)) }
-    ensures lacks { IfErr result (λ e. e ≡ RowRefusal.Memory → R.faults rows.new ≡ R.faults rows.old) }
-    ensures stays { StaysTold (R.told rows.old) (R.told rows.new) × StaysTold (R.rows rows.old) (R.rows rows.new) × (R.spell rows.new ≡ R.spell rows.old) }
-    ensures later { R.faults rows.old ≤ R.faults rows.new }
+    ensures all { OnOk result (GivesAll (R.state rows.old) (R.state rows.new) (map view_row found.now)) }
+    ensures some { IfErr result (GivesSome (R.state rows.old) (R.state rows.new) (map view_row found.now)) }
+    ensures cause { IfErr result (λ e. e ≡ RowRefusal.Fault → Rose (R.state rows.old).faults (R.state rows.new).faults) }
+    ensures lacks { IfErr result (λ e. e ≡ RowRefusal.Memory → (R.state rows.new).faults ≡ (R.state rows.old).faults) }
+    ensures goes { RowSinkGoes (R.state rows.old) (R.state rows.new) }
 {
     for row in found.as_slice() {
         rows.row(row)?;

@@ -21,6 +21,7 @@ impl Replica {
             minimum: 0,
             parts: self.part_lines()?,
             streams: self.stream_lines()?,
+            job: None,
         })
     }
 

@@ -1,7 +1,8 @@
 //! What no clause shows: that commands succeed where there is memory, and what comes of worked logs.
 
-ghost use Rattle.std.specs.Prelude.{◌≤◌, IfOk, IsTrue, length, map};
+ghost use Rattle.std.specs.Prelude.{◌&&◌, ◌≤◌, IfOk, IsTrue, length, map};
 ghost use Rattle.lt_command.specs.View.{view_command};
+ghost use Rattle.lt_model.specs.InMemory.{is_built};
 ghost use Rattle.lt_model.specs.Outside.{is_command};
 ghost use Rattle.lt_pump.specs.Pumps.{streams_of};
 
@@ -26,13 +27,7 @@ impl RowSink for Kept {
     ghost use Rattle.std.specs.Prelude.{None, Some, [], map};
     ghost use Rattle.lt_core.specs.View.{view_row};
 
-    ghost told = { λ k. None };
-
-    ghost spell = { λ k row. [] };
-
-    ghost rows = { λ k. Some (map view_row k.rows) };
-
-    ghost faults = { λ k. 0 };
+    ghost state = { λ k. record { spell = λ row. []; told = None; rows = Some (map view_row k.rows); faults = 0 } };
 
     fn row(&mut self, row: &Row) -> Result<(), RowRefusal> {
         self.rows.push(row.copy()?)?;
@@ -50,7 +45,7 @@ struct Session {
 
 /// The command that a step of a worked row stands for.
 fn command(alloc: Global, step: &Step) -> Result<Command, Fail>
-    ensures { IfOk result (λ command. IsTrue (is_command (view_command command))) }
+    ensures { IfOk result (λ command. IsTrue (is_command (view_command command) && is_built (view_command command))) }
 {
     let named = |name: &str| Text::from_slice(alloc, name.as_bytes());
     match *step {
@@ -73,6 +68,12 @@ fn command(alloc: Global, step: &Step) -> Result<Command, Fail>
             table: named(table)?,
             version,
             at,
+            columns: None,
+            from: None,
+            to: None,
+            after: None,
+            limit: None,
+            filter: Pred::All,
         })),
         Step::Status => Ok(Command::Status),
     }

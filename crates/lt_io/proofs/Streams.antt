@@ -5,7 +5,7 @@ use Rattle.std.proofs.Math.Seq.{map-set_same}
 use Rattle.std.proofs.lemmas.List.{drop-drop, drop_all, get_or-map, length-map, map-set, nil_from_length}
 use Rattle.std.proofs.lemmas.Option.{unwrap_or-slice_get}
 use Rattle.lt_model.specs.Fair.{Feed, Grows, stream_bytes}
-use Rattle.lt_model.specs.Outside.{FeedCalled}
+use Rattle.lt_model.specs.Outside.{FeedCalled, FeedState}
 use Rattle.lt_io.specs.Plan.{GoesByPlan, Plan}
 use Rattle.lt_io.proofs.Plans.{cause_by_plan}
 
@@ -13,16 +13,17 @@ grows_itself : (streams : Feed) → Grows streams streams
 grows_itself [] = tt
 grows_itself (b ∷ bs) = (([], sym (append-nil b)), grows_itself bs)
 
+-- what a feed in memory is, by its streams and its plan
+abbrev state_by : Feed → Plan → FeedState
+state_by f p = record { told = Some f; known = length f; faults = p.faults; calls = p.made }
+
 -- a call that changes no stream
 pub called_by_plan : {T E : Type 0} (f g : Feed) (p q : Plan) (r : Result T E) → g ≡ f → GoesByPlan p q (is_err r) → p.faults ≤ q.faults → p.made ≤ q.made
-    → FeedCalled (Some f) (Some g) (length f) (length g) p.faults q.faults p.made q.made r
+    → FeedCalled (state_by f p) (state_by g q) r
 called_by_plan f g p q r same goes later made = record {
-  stays = (λ _. refl, λ _. refl);
-  grows = subst (Grows f) (sym same) (grows_itself f);
-  more = omega (arith, ap length same);
+  goes = record { stays = (λ _. refl, λ _. refl); grows = subst (Grows f) (sym same) (grows_itself f); more = omega (arith, ap length same); faults = later; calls = made };
   cause = cause_by_plan p q r goes later;
   counted = omega (arith, ap (λ p. p.made) goes.1);
-  no_fewer = made;
 }
 
 -- ---- reads

@@ -4,16 +4,16 @@ use Rattle.lt_io.specs.declared.standard.StdSource.{StdSource}
 use Rattle.lt_io.specs.declared.standard.StdSink.{StdSink}
 use Rattle.lt_io.specs.declared.file_feed.FileFeed.{FileFeed}
 
-abbrev pub std_source_faults : {R : Type 0} → StdSource R → ℕ
+abbrev pub std_source_faults : {R C : Type 0} → StdSource R C → ℕ
 std_source_faults s = s.faults
 
-abbrev pub std_source_inner : {R : Type 0} → StdSource R → R
+abbrev pub std_source_inner : {R C : Type 0} → StdSource R C → R
 std_source_inner s = s.inner
 
-abbrev pub std_sink_faults : {W : Type 0} → StdSink W → ℕ
+abbrev pub std_sink_faults : {W C : Type 0} → StdSink W C → ℕ
 std_sink_faults s = s.faults
 
-abbrev pub std_sink_inner : {W : Type 0} → StdSink W → W
+abbrev pub std_sink_inner : {W C : Type 0} → StdSink W C → W
 std_sink_inner s = s.inner
 
 abbrev pub file_feed_known : {R : Type 0} → FileFeed R → ℕ

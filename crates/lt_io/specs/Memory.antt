@@ -1,8 +1,9 @@
 -- What the objects in memory hold.
-use Rattle.std.specs.Prelude.{List, Option, Vec, [], drop, map, ℕ, ◌∷◌}
+use Rattle.std.specs.Prelude.{List, Option, Some, Vec, [], drop, length, map, ℕ, ◌∷◌}
 use Rattle.std.specs.declared.alloc.Global.{Global}
 use Rattle.std.proofs.Common.{arith}
 use Rattle.lt_model.specs.Fair.{AreShort, Feed}
+use Rattle.lt_model.specs.Outside.{FeedState}
 use Rattle.lt_io.specs.Plan.{Plan}
 use Rattle.lt_io.specs.declared.mem_source.MemSource.{MemSource}
 use Rattle.lt_io.specs.declared.mem_sink.MemSink.{MemSink}
@@ -43,6 +44,9 @@ feed_streams f = map (λ v. v.items) f.streams.items
 
 abbrev pub feed_plan : MemFeed → Plan
 feed_plan f = f.calls
+
+abbrev pub feed_state : MemFeed → FeedState
+feed_state f = record { told = Some (feed_streams f); known = length (feed_streams f); faults = (feed_plan f).faults; calls = (feed_plan f).made }
 
 -- no memory holds more bytes than that
 pub are_short : (streams : List (Vec ℕ Global)) → AreShort (map (λ v. v.items) streams)

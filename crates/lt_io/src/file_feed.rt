@@ -1,15 +1,16 @@
 //! An adapter over files: the streams of a feed are the files feed.0, feed.1, .. of the current folder. It tells nothing of
-//! their content. Each file is opened once, and a read is one call of the system.
+//! their content. Each file is opened once, and a read is one call of the system. What stands under such a name and is no
+//! regular file is a fault of the call that finds it.
 
 ghost use Rattle.std.specs.Prelude.{◌≡◌, ◌+◌, ◌^◌, ◌<◌, ◌≤◌, None, length, IfSome};
 
 use crate::faults::FeedFault;
 use crate::feed::Feed;
 use std::fs::File;
-use std::io;
 use std::io::ErrorKind;
 use std::os::unix::fs::FileExt;
 use std::rt::Files;
+use std::{fs, io};
 
 /// How many files are looked at: one more than any store has streams.
 const MOST_FILES: usize = 257;
@@ -50,13 +51,7 @@ impl<R: AllocGlobal> FileFeed<R> {
 impl<R: Files<File = File> + AllocGlobal> Feed for FileFeed<R> {
     ghost use Rattle.lt_io.specs.Adapters.{file_feed_known, file_feed_faults, file_feed_calls};
 
-    ghost told = { λ _. None };
-
-    ghost known = { file_feed_known };
-
-    ghost faults = { file_feed_faults };
-
-    ghost calls = { file_feed_calls };
+    ghost state = { λ f. record { told = None; known = file_feed_known f; faults = file_feed_faults f; calls = file_feed_calls f } };
 
     fn streams(&mut self) -> Result<u32, FeedFault> {
         self.calls = self.calls.saturating_add(1);
@@ -105,11 +100,25 @@ fn open_stream<R: Files<File = File> + AllocGlobal>(
     number: usize,
 ) -> io::Result<Option<File>> {
     let name = format!(in rt.alloc(); "feed.{number}")?;
-    match File::open(rt, &name) {
+    match open_regular(rt, &name) {
         Ok(file) => Ok(Some(file)),
         Err(error) if error.kind() == ErrorKind::NotFound => Ok(None),
         Err(error) => Err(error),
     }
+}
+
+/// Opens a regular file, and refuses any other kind. It looks at the name first, since the opening of a pipe waits for a
+/// writer; a name that becomes a pipe between the two calls still waits.
+fn open_regular<R: Files<File = File>>(rt: &R, name: &str) -> io::Result<File> {
+    if !fs::metadata(rt, name)?.is_file() {
+        return Err(ErrorKind::InvalidInput.into());
+    }
+    // A copy's descriptor is above those of the standard streams, also where the program was started without one of them.
+    let file = File::open(rt, name)?.try_clone()?;
+    if !file.metadata()?.is_file() {
+        return Err(ErrorKind::InvalidInput.into());
+    }
+    Ok(file)
 }
 
 /// One read of a file, made again where it was interrupted. It gives nothing past the greatest length of a stream. None where

@@ -81,19 +81,13 @@ impl MemFeed {
 
 impl Feed for MemFeed {
     ghost use Rattle.std.specs.Prelude.{refl};
-    ghost use Rattle.lt_io.specs.Memory.{feed_streams, feed_plan, are_short};
+    ghost use Rattle.lt_io.specs.Memory.{feed_streams, feed_plan, feed_state, are_short};
 
-    ghost told = { λ f. Some (feed_streams f) };
-
-    ghost known = { λ f. length (feed_streams f) };
-
-    ghost faults = { λ f. (feed_plan f).faults };
-
-    ghost calls = { λ f. (feed_plan f).made };
+    ghost state = { feed_state };
 
     fn streams(&mut self) -> Result<u32, FeedFault>
         ensures number { IfOk result (λ n. n ≡ length (feed_streams self.new)) }
-        ensures called { FeedCalled (Some (feed_streams self.old)) (Some (feed_streams self.new)) (length (feed_streams self.old)) (length (feed_streams self.new)) (feed_plan self.old).faults (feed_plan self.new).faults (feed_plan self.old).made (feed_plan self.new).made result }
+        ensures called { FeedCalled (feed_state self.old) (feed_state self.new) result }
         ensures plan { GoesByPlan (feed_plan self.old) (feed_plan self.new) (is_err result) }
         ensures same { feed_streams self.new ≡ feed_streams self.old }
     {
@@ -110,7 +104,7 @@ impl Feed for MemFeed {
         ensures bound { IfOk result (λ n. n ≤ length buf.new) }
         ensures place { IfOk result (λ n. 0 < n → offset + n < 2 ^ 63) }
         ensures bytes { IfOk result (λ n. FeedReads (Some (feed_streams self.new)) stream offset buf.new n) }
-        ensures called { FeedCalled (Some (feed_streams self.old)) (Some (feed_streams self.new)) (length (feed_streams self.old)) (length (feed_streams self.new)) (feed_plan self.old).faults (feed_plan self.new).faults (feed_plan self.old).made (feed_plan self.new).made result }
+        ensures called { FeedCalled (feed_state self.old) (feed_state self.new) result }
         ensures plan { GoesByPlan (feed_plan self.old) (feed_plan self.new) (is_err result) }
         ensures same { feed_streams self.new ≡ feed_streams self.old }
     {

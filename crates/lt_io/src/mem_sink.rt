@@ -82,11 +82,7 @@ impl Sink for MemSink {
     ghost use Rattle.lt_io.specs.Memory.{sink_failed_at, sink_held, sink_lacks, sink_plan};
     ghost use Rattle.lt_io.specs.Plan.{GoesUnlessLacking};
 
-    ghost held = { λ s. Some (sink_held s) };
-
-    ghost faults = { λ s. (sink_plan s).faults };
-
-    ghost failed_at = { λ s. sink_failed_at s };
+    ghost state = { λ s. record { told = Some (sink_held s); faults = (sink_plan s).faults; failed_at = sink_failed_at s } };
 
     #[tactic(auto, using(crate::proofs::Plans::cause_by_plan))]
     fn write(&mut self, bytes: &[u8]) -> Result<usize, WriteFault>

@@ -54,11 +54,7 @@ impl MemSource {
 impl Source for MemSource {
     ghost use Rattle.lt_io.specs.Memory.{source_failed_at, source_left, source_plan};
 
-    ghost left = { λ s. Some (source_left s) };
-
-    ghost faults = { λ s. (source_plan s).faults };
-
-    ghost failed_at = { λ s. source_failed_at s };
+    ghost state = { λ s. record { told = Some (source_left s); faults = (source_plan s).faults; failed_at = source_failed_at s } };
 
     #[tactic(auto, using(crate::proofs::Plans::cause_by_plan, crate::proofs::Streams::consumed))]
     fn read(&mut self, buf: &mut [u8]) -> Result<usize, ReadFault>

@@ -1,29 +1,23 @@
 //! Bytes that go out.
 
-ghost use Rattle.std.specs.Prelude.{◌<◌, ◌≤◌, ℕ, List, Option, length, IfOk};
+ghost use Rattle.std.specs.Prelude.{◌<◌, ◌≤◌, length, IfOk};
 ghost use Rattle.std.specs.Io.KnownBytes.{WriteAppends};
 ghost use Rattle.lt_model.specs.Disk.{HasCause};
-ghost use Rattle.lt_model.specs.Outside.{KeepsFirstFault, StaysTold};
+ghost use Rattle.lt_model.specs.Outside.{BytesState, KeepsFirstFault, StaysTold};
 
 use crate::faults::WriteFault;
 
 /// Bytes that go out.
 pub trait Sink {
-    /// The bytes that it holds, where they are told.
-    ghost held: { Self → Option (List ℕ) };
-
-    /// How often it failed.
-    ghost faults: { Self → ℕ };
-
-    /// How many bytes it held when it first failed, if it did and tells them.
-    ghost failed_at: { Self → Option ℕ };
+    /// What it tells of the bytes that it holds, how often it failed, and how many it held when it first did.
+    ghost state: { Self → BytesState };
 
     /// Takes some of the bytes, from the first on, and tells how many: at least one.
     fn write(&mut self, bytes: &[u8]) -> Result<usize, WriteFault>
         requires { 0 < length bytes.now }
         ensures bound { IfOk result (λ n. (0 < n) × (n ≤ length bytes.now)) }
-        ensures bytes { WriteAppends (held self.old) (held self.new) result bytes.now }
-        ensures stays { StaysTold (held self.old) (held self.new) }
-        ensures cause { HasCause (faults self.old) (faults self.new) result }
-        ensures first_fault { KeepsFirstFault (held self.new) (failed_at self.old) (failed_at self.new) result };
+        ensures bytes { WriteAppends (state self.old).told (state self.new).told result bytes.now }
+        ensures stays { StaysTold (state self.old).told (state self.new).told }
+        ensures cause { HasCause (state self.old).faults (state self.new).faults result }
+        ensures first_fault { KeepsFirstFault (state self.new).told (state self.old).failed_at (state self.new).failed_at result };
 }

@@ -76,7 +76,7 @@ fn a_feed_gives_its_streams_as_they_stand(rt: HostRuntime) -> Result<(), Fail> {
     Ok(())
 }
 
-/// A device that is interrupted at first, then gives or takes one byte, then none, then one more, and then fails.
+/// A device that is interrupted and would block at first, then gives or takes one byte, then none, then one more, and then fails.
 #[derive(Drop)]
 struct Weak {
     calls: u8,
@@ -87,8 +87,9 @@ impl Weak {
         self.calls = self.calls.saturating_add(1);
         match self.calls {
             1 => Err(ErrorKind::Interrupted.into()),
-            2 | 4 => Ok(1),
-            3 => Ok(0),
+            2 => Err(ErrorKind::WouldBlock.into()),
+            3 | 5 => Ok(1),
+            4 => Ok(0),
             _ => Err(ErrorKind::Other.into()),
         }
     }
@@ -114,7 +115,7 @@ impl Write for Weak {
 
 #[test]
 fn a_reader_is_read_to_its_end(rt: HostRuntime) {
-    let mut source = StdSource::new(Weak { calls: 0 });
+    let mut source = StdSource::new(rt, Weak { calls: 0 });
     let mut buf = [0u8; 2];
     assert_eq!(rt; source.read(&mut buf), Ok(1));
     assert_eq!(rt; buf[0], b'a');
@@ -125,7 +126,7 @@ fn a_reader_is_read_to_its_end(rt: HostRuntime) {
 
 #[test]
 fn a_writer_that_takes_nothing_has_failed(rt: HostRuntime) {
-    let mut sink = StdSink::new(Weak { calls: 0 });
+    let mut sink = StdSink::new(rt, Weak { calls: 0 });
     assert_eq!(rt; sink.write(b"ab"), Ok(1));
     assert_eq!(rt; sink.write(b"b"), Err(WriteFault));
     assert_eq!(rt; sink.write(b"b"), Ok(1));
@@ -159,6 +160,10 @@ fn files_are_streams_up_to_the_first_that_is_missing(rt: HostRuntime) -> Result<
         let got = feed.read_at(stream, offset, &mut buf)?;
         assert_eq!(rt; &buf[..got], want, "of stream {stream} from {offset}");
     }
+    fs::create_dir(&rt, "feed.2")?;
+    assert_eq!(rt; feed.streams(), Err(FeedFault));
+    fs::remove_dir(&rt, "feed.2")?;
+    assert_eq!(rt; feed.streams(), Ok(2));
     for (name, _) in FILES {
         fs::remove_file(&rt, name)?;
     }

@@ -23,7 +23,7 @@ use Rattle.lt_laws.proofs.PartsChanged.{all_changed, any_changed, any_there, cha
 use Rattle.lt_laws.proofs.RangeLaws.{source_in_time}
 use Rattle.lt_laws.proofs.ReadLaws.{or_left, or_right}
 use Rattle.lt_laws.proofs.ShelfGrowth.{flushed_carried, known_stays, named_stay}
-use Rattle.lt_laws.proofs.SplitLaws.{Each, IsWholeIn, StandsAt, each_pair, each_sound, each_zipped, lows_of, sound_each, zipped_each}
+use Rattle.lt_laws.proofs.SplitLaws.{Each, StandsAt, each_pair, each_sound, each_zipped, lows_of, sound_each, zipped_each}
 use Rattle.lt_laws.proofs.StepLaws.{if_some}
 use Rattle.lt_laws.proofs.TakenLaws.{any_append}
 
@@ -222,15 +222,12 @@ added_job feed fs s n j good h =
     let e = with_one d n x in
     let rs = ranges_of d in
     let same_ranges : part_ranges e.parts ≡ rs = ranges_changed (lists_too x) n d.parts (λ p. refl) in
-    let whole = zipped_each (λ p r. IsWholeIn j r) d.parts h.1.range in
     let stands = known_each d d.parts rs (λ p r. StandsAt d j p r × SoundPart d fs p r) (each_pair (StandsAt d j) (SoundPart d fs) d.parts rs (zipped_each (StandsAt d j) d.parts h.0) (sound_each d fs d.parts rs good.sound.parts)) (ids_known d good.lawful) in
     let same_inputs : deltas_of e.shelf j.inputs ≡ deltas_of d.shelf j.inputs = named_stay d.shelf (x ∷ []) j.inputs h.1.shelved in (
       subst (λ (ts : List Range). AllByRecursion (λ y. StandsAt e j y.0 y.1) (zip e.parts ts)) (sym same_ranges) (each_zipped (StandsAt e j) e.parts rs
           (each_changed (λ p r. (StandsAt d j p r × SoundPart d fs p r) × AllByRecursion (IsKnown d) p.ids) (StandsAt e j) (lists_too x) n d.parts rs (λ p r a. stands_other d n x j p r a.1 a.0.0)
           (λ p r i k a. stands_added d fs (passed fs s.streams) p r (pending_of s n) n x j (adds_at feed fs s n p r good i k (a.0.1, a.1)) h.1.minimum a.0.0) stands)),
       record {
-        range = subst (λ (ts : List Range). AllByRecursion (λ y. IsWholeIn j y.1) (zip e.parts ts)) (sym same_ranges)
-            (each_zipped (λ p r. IsWholeIn j r) e.parts rs (each_changed (λ p r. IsWholeIn j r) (λ p r. IsWholeIn j r) (lists_too x) n d.parts rs (λ p r a. a) (λ p r i k a. a) whole));
         shelved = all_map (λ i. IsTrue (is_some (delta_with d.shelf i))) (λ i. IsTrue (is_some (delta_with e.shelf i))) j.inputs (λ i k. ap is_some (known_stays d.shelf (x ∷ []) i k) ∙ k) h.1.shelved;
         catalogue = h.1.catalogue;
         lawful = h.1.lawful;

@@ -6,7 +6,7 @@ use Rattle.std.specs.Option.{option_map_or}
 use Rattle.std.proofs.lemmas.Bool.{false≢true, not-false}
 use Rattle.lt_model.specs.Value.{is_number}
 use Rattle.lt_model.specs.Laws.{IsKeyed}
-use Rattle.lt_model.specs.Key.{Range, in_range, lies_in, same_key}
+use Rattle.lt_model.specs.Key.{Range, common, in_range, meets, same_key}
 use Rattle.lt_model.specs.Layout.{Cell, Leaf, coerce}
 use Rattle.lt_model.specs.Schema.{already_retired, as_it_was, Became, Catalogue, IsCatalogue, Registered, SchemaFault, SchemaVersion, Table, carriers, err_or, last_version, registered, retire_fault, schema_fault, table_named, table_numbered, then_added, then_retired, unknown_table, unknown_version, when, with_version, without_version}
 use Rattle.lt_model.specs.Log.{Change, Header, Item, change_key, changes_of}
@@ -262,7 +262,7 @@ abbrev RestAt : Catalogue → Durable → Job → Range → ℕ → Type 0
 RestAt cat d j r id = IsTrue (list_any (λ i. i == id) j.inputs) ⊎ ((table : ℕ) → AllByRecursion (λ v. j.minimum < v.ts) (merged_in cat d.shelf (id ∷ []) r table))
 
 abbrev StandsIn : Catalogue → Durable → Job → Part × Range → Type 0
-StandsIn cat d j x = IsTrue (lies_in x.1 j.range) → ListsAll x.0.ids j.inputs × (IsTrue j.is_major → AllByRecursion (RestAt cat d j x.1) x.0.ids)
+StandsIn cat d j x = IsTrue (meets x.1 j.range) → ListsAll x.0.ids j.inputs × (IsTrue j.is_major → AllByRecursion (RestAt cat d j (common x.1 j.range)) x.0.ids)
 
 became_trans : (a b c : Catalogue) → Became a b → Became b c → Became a c
 became_trans a b _ x as_it_was = x
@@ -272,8 +272,8 @@ became_trans a b _ x (then_retired c n v y e) = then_retired c n v (became_trans
 job_grows : (d : Durable) (wide : Catalogue) (j : Job) → StoreGrew d wide → JobStands d j × JobBegan d j → JobStands (with_cat d wide) j × JobBegan (with_cat d wide) j
 job_grows d wide j g h = (
   all_map (StandsIn d.catalogue d j) (StandsIn wide d j) (zip d.parts (ranges_of d)) (λ x s l. let k = s l in
-      (k.0, (λ m. all_map (RestAt d.catalogue d j x.1) (RestAt wide d j x.1) x.0.ids (λ id y. elim y [ inl i ↦ inl i | inr f ↦ inr (λ table. late_grows d wide j.minimum id x.1 table g (f table)) ]) (k.1 m)))) h.0,
-  record { range = h.1.range; shelved = h.1.shelved; catalogue = became_trans j.catalogue d.catalogue wide h.1.catalogue g.grew.became; lawful = h.1.lawful; inputs = h.1.inputs; minimum = h.1.minimum; taken = h.1.taken },
+      (k.0, (λ m. all_map (RestAt d.catalogue d j (common x.1 j.range)) (RestAt wide d j (common x.1 j.range)) x.0.ids (λ id y. elim y [ inl i ↦ inl i | inr f ↦ inr (λ table. late_grows d wide j.minimum id (common x.1 j.range) table g (f table)) ]) (k.1 m)))) h.0,
+  record { shelved = h.1.shelved; catalogue = became_trans j.catalogue d.catalogue wide h.1.catalogue g.grew.became; lawful = h.1.lawful; inputs = h.1.inputs; minimum = h.1.minimum; taken = h.1.taken },
 )
 
 -- ---- a session under another catalogue

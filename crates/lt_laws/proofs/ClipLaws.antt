@@ -48,7 +48,7 @@ pub key-trans : (a b c : List ℕ) → below a b ≡ true → below b c ≡ true
 key-trans a b c h i = ap is_lt (nat_list_cmp_total.trans a b c (key-less a b h) (key-less b c i))
 
 -- a key at or after a version's, below a bound
-before-below : (v w : RowVersion) (bound : List ℕ) → stands_before v w ≡ true → below w.key bound ≡ true → below v.key bound ≡ true
+pub before-below : (v w : RowVersion) (bound : List ℕ) → stands_before v w ≡ true → below w.key bound ≡ true → below v.key bound ≡ true
 before-below v w bound h i = elim (or_cases (below v.key w.key) (same_key v.key w.key && nat_lt w.ts v.ts) h) [
   | inl e ↦ key-trans v.key w.key bound e i
   | inr e ↦ ap (λ k. below k bound) (same-key v.key w.key (and_parts (same_key v.key w.key) (nat_lt w.ts v.ts) e).0) ∙ i
@@ -60,7 +60,7 @@ upto-by a b c Equal e h i = absurd (false≢true (sym i ∙ ap (λ k. below k b)
 upto-by a b c Greater e h i = absurd (false≢true (sym i ∙ key-trans c a b (ap is_lt (nat_list_cmp_total.antisymm c a ∙ ap ordering_reverse e)) h))
 
 -- what is below a bound is below each greater one
-below-upto : (a b c : List ℕ) → below a b ≡ true → below c b ≡ false → below a c ≡ true
+pub below-upto : (a b c : List ℕ) → below a b ≡ true → below c b ≡ false → below a c ≡ true
 below-upto a b c h i = upto-by a b c (bytes_cmp a c) refl h i
 
 not-true : (b : Bool) → IsTrue (not b) → b ≡ false

@@ -3,9 +3,9 @@ use Rattle.std.proofs.Common.{Bool, List, [], ap, arith, cond, eqb-true, false, 
 use Rattle.std.specs.Prelude.{Contains, IfSome, IsTrue, None, Option, Some, is_some, nat_le, nat_lt, option_and_then, option_map, slice_get, ◌&&◌, ◌==◌, ◌^◌, ◌⊎◌}
 use Rattle.std.specs.List.{AllByRecursion}
 use Rattle.std.specs.Option.{option_map_or}
-use Rattle.std.proofs.lemmas.Bool.{and_parts, eqb-false, false≢true, or_parts}
+use Rattle.std.proofs.lemmas.Bool.{and_from, and_parts, eqb-false, false≢true, or_parts}
 use Rattle.std.proofs.Common.{leb-false, ltb-false}
-use Rattle.lt_model.specs.Key.{Range, lies_in, ranges_from}
+use Rattle.lt_model.specs.Key.{Range, common, lies_in, ranges_from}
 use Rattle.lt_model.specs.Schema.{Catalogue, when}
 use Rattle.lt_model.specs.Log.{Change, Header, Item}
 use Rattle.lt_model.specs.Fair.{Feed}
@@ -13,22 +13,35 @@ use Rattle.lt_model.specs.Store.{Delta, Durable, delta_with, IsLawfulPart, Part,
 use Rattle.lt_model.specs.Machine.{Job, State, cat_of, committed, compacted, frees_nothing, is_worn, job_output, output_id, parts_replaced, ranges_of, replaced, unknown_in}
 use Rattle.lt_model.specs.Reply.{job_open, no_such_delta, too_many_deltas, worn}
 use Rattle.lt_model.specs.Script.{Mode, do_compact, do_job_finish}
-use Rattle.lt_model.specs.Sound.{IsGood, JobBegan, JobStands, PendingOf, PendingOfAll, SoundPart, SoundParts, passed}
+use Rattle.lt_model.specs.Sound.{IsGood, JobBegan, JobStands, ListsAll, PendingOf, PendingOfAll, SoundPart, SoundParts, passed}
 use Rattle.lt_laws.proofs.AddedSession.{ids_known, known_each}
 use Rattle.lt_laws.proofs.CompactedParts.{InJob, changed_is, compact_of, compacted_by, compacted_is, inputs_of_job, output_delta, part_beside, part_compacted, pending_beside, pending_compacted}
 use Rattle.lt_laws.proofs.CompactedShelf.{HasRoom, IsId, lawful_compacted, lows_replaced}
 use Rattle.lt_laws.proofs.DurableFacts.{IsKnown, shelf_below}
-use Rattle.lt_laws.proofs.JobLaws.{job_begun_stands, part_job_is}
+use Rattle.lt_laws.proofs.JobLaws.{HasLow, all_have_low, both_each, job_begun_stands, part_job_is}
 use Rattle.lt_laws.proofs.JobOutput.{OutputIn, output_holds}
 use Rattle.lt_laws.proofs.ListFacts.{all_at, all_map, find_held, none_mapped}
 use Rattle.lt_laws.proofs.PointLaws.{when_none}
-use Rattle.lt_laws.proofs.SplitLaws.{Each, StandsAt, each_pair, each_sound, sound_each, zipped_each}
+use Rattle.lt_laws.proofs.SplitLaws.{Each, RestsIn, StandsAt, each_pair, each_sound, in_lies, lows_of, rests_within, sound_each, zipped_each}
+use Rattle.lt_laws.proofs.ClipLaws.{in-common}
+use Rattle.lt_laws.proofs.RangeLaws.{tile_rises}
+use Rattle.lt_laws.proofs.ScanLaws.{tiles_of}
+use Rattle.lt_laws.proofs.SoundLaws.{meets-by}
 use Rattle.lt_laws.proofs.StepLaws.{KeepsDoing, all_pending_as, next_generation, unrefused}
 
 -- ---- each partition, replaced or not
 
+-- what stands of a job in a partition that lies in its range
+abbrev StandsWhole : Durable → Job → Part → Range → Type 0
+StandsWhole d j p r = IsTrue (lies_in r j.range) → ListsAll p.ids j.inputs × (IsTrue j.is_major → AllByRecursion (RestsIn d j r) p.ids)
+
+stands_whole : (d : Durable) (j : Job) (p : Part) (r : Range) → StandsAt d j p r → HasLow r → StandsWhole d j p r
+stands_whole d j p r h low l =
+    let a = h (meets-by r.low r j.range low (in_lies r.low r j.range l low)) in
+    (a.0, (λ w. rests_within d j r (common r j.range) p.ids (λ key i. in-common key r j.range ∙ and_from _ _ i (in_lies key r j.range l i)) (a.1 w)))
+
 abbrev Given : Durable → List (Header × List Item) → Job → Part → Range → Type 0
-Given d fs j p r = (StandsAt d j p r × SoundPart d fs p r) × AllByRecursion (IsKnown d) p.ids
+Given d fs j p r = (StandsWhole d j p r × SoundPart d fs p r) × AllByRecursion (IsKnown d) p.ids
 
 abbrev next_part : Job → Option ℕ → Part → Range → Part
 next_part j o p r = cond (lies_in r j.range) (replaced j o p) p
@@ -94,7 +107,8 @@ in_job feed fs s j o p r good f l h a = let k = a.0.0 l in record {
 
 given_each : (feed : Feed) (fs : List (Header × List Item)) (s : State) (j : Job) → IsGood feed s fs → JobStands s.durable j → Each (Given s.durable fs j) s.durable.parts (ranges_of s.durable)
 given_each feed fs s j good h = let d = s.durable in
-    known_each d d.parts (ranges_of d) (λ p r. StandsAt d j p r × SoundPart d fs p r) (each_pair (StandsAt d j) (SoundPart d fs) d.parts (ranges_of d) (zipped_each (StandsAt d j) d.parts h) (sound_each d fs d.parts (ranges_of d) good.sound.parts)) (ids_known d good.lawful)
+    known_each d d.parts (ranges_of d) (λ p r. StandsWhole d j p r × SoundPart d fs p r) (each_pair (StandsWhole d j) (SoundPart d fs) d.parts (ranges_of d)
+    (both_each (StandsAt d j) (λ p r. HasLow r) (StandsWhole d j) d.parts (ranges_of d) (stands_whole d j) (zipped_each (StandsAt d j) d.parts h) (all_have_low d.parts (tile_rises (lows_of d.parts) (tiles_of d good.lawful)))) (sound_each d fs d.parts (ranges_of d) good.sound.parts)) (ids_known d good.lawful)
 
 same_ranges : (d : Durable) (j : Job) (o : Option ℕ) → part_ranges (compact_of o d j).parts ≡ ranges_of d
 same_ranges d j o = ap ranges_from (lows_replaced j o (ranges_of d) d.parts)
@@ -209,7 +223,7 @@ job_finish_keeps feed fs s s' a good e d =
     let room : when (nat_le 4096 (length s.durable.shelf) && frees_nothing s.durable d.0) too_many_deltas ≡ None = ap (λ (o : Option Job). when (nat_le 4096 (length s.durable.shelf) && option_map_or (frees_nothing s.durable) o false) too_many_deltas) (sym d.1) ∙ u.limit in
     (fs, subst (λ (x : State). IsGood feed x fs) (sym d.3) (finished feed fs s d.0 good h room u.unworn))
 
-no_job : (s : State) (o : Option Job) → s.job ≡ o → when (true && is_some o) job_open ≡ None → o ≡ None
+pub no_job : (s : State) (o : Option Job) → s.job ≡ o → when (true && is_some o) job_open ≡ None → o ≡ None
 no_job s None e h = refl
 no_job s (Some j) e h = cc
 

@@ -4,7 +4,7 @@ use Rattle.std.specs.Prelude.{Contains, IsTrue, None, Option, Some, find, is_som
 use Rattle.std.specs.List.{AllByRecursion, cons_option, list_any}
 use Rattle.std.proofs.lemmas.Bool.{and_from, and_parts}
 use Rattle.std.proofs.lemmas.List.{map-append}
-use Rattle.lt_model.specs.Key.{Range, in_range, same_key}
+use Rattle.lt_model.specs.Key.{Range, common, in_range, same_key}
 use Rattle.lt_model.specs.Schema.{Catalogue, IsCatalogue, change_at, first_of}
 use Rattle.lt_model.specs.Log.{Change, Header, Item, change_key}
 use Rattle.lt_model.specs.Row.{is_in_time}
@@ -23,7 +23,7 @@ use Rattle.lt_laws.proofs.ReadLaws.{or_left}
 use Rattle.lt_laws.proofs.ScanLaws.{seen_from}
 use Rattle.lt_laws.proofs.ScanLemmas.{found-held, from-filter, in-filter, same-held, seen-key, seen-ts}
 use Rattle.lt_laws.proofs.ShelfGrowth.{merged_from, merged_new, merged_old, named_stay, new_named, pending_ordered, with_new}
-use Rattle.lt_laws.proofs.SplitLaws.{StandsAt}
+use Rattle.lt_laws.proofs.SplitLaws.{RestsIn, StandsAt}
 use Rattle.lt_laws.proofs.TakenLaws.{any_append}
 
 -- ---- what a source is
@@ -283,7 +283,7 @@ part_other d fs n x p r known s =
 -- ---- an open job
 
 abbrev pub Rest : Durable → Job → Range → ℕ → Type 0
-Rest d j r id = IsTrue (list_any (λ i. i == id) j.inputs) ⊎ ((table : ℕ) → AllByRecursion (λ v. j.minimum < v.ts) (merged_in d.catalogue d.shelf (id ∷ []) r table))
+Rest d j r id = RestsIn d j r id
 
 rest_same : (d : Durable) (n : ℕ) (x : Delta) (j : Job) (r : Range) (id : ℕ) → IsKnown d id → Rest d j r id → Rest (with_one d n x) j r id
 rest_same d n x j r id known (inl i) = inl i
@@ -294,25 +294,25 @@ all_rest d n x j r [] known a = tt
 all_rest d n x j r (id ∷ ids) known a = (rest_same d n x j r id known.0 a.0, all_rest d n x j r ids known.1 a.1)
 
 pub stands_other : (d : Durable) (n : ℕ) (x : Delta) (j : Job) (p : Part) (r : Range) → AllByRecursion (IsKnown d) p.ids → StandsAt d j p r → StandsAt (with_one d n x) j p r
-stands_other d n x j p r known h l = let a = h l in (a.0, (λ m. all_rest d n x j r p.ids known (a.1 m)))
+stands_other d n x j p r known h l = let a = h l in (a.0, (λ m. all_rest d n x j (common r j.range) p.ids known (a.1 m)))
 
 lists_more : (ids more inputs : List ℕ) → ListsAll ids inputs → ListsAll (ids ++ more) inputs
 lists_more ids more inputs a = all_map (λ i. IsTrue (list_any (λ x. x == i) ids)) (λ i. IsTrue (list_any (λ x. x == i) (ids ++ more))) inputs (λ i h. any_append (λ x. x == i) ids more ∙ or_left (list_any (λ x. x == i) ids) (list_any (λ x. x == i) more) h) a
 
--- the new delta's versions are above the job's minimum
-new_late : (d : Durable) (fs : List (Header × List Item)) (cs : List Change) (p : Part) (r : Range) (names : List Name) (n : ℕ) (x : Delta) (j : Job) (table : ℕ) → Adds d fs cs p r names x → j.minimum ≤ d.minimum
-    → AllByRecursion (λ v. j.minimum < v.ts) (merged_in d.catalogue (with_one d n x).shelf (x.id ∷ []) r table)
-new_late d fs cs p r names n x j table a low =
+-- the new delta's versions are above the job's minimum, whichever of the partition's keys are looked at
+new_late : (d : Durable) (fs : List (Header × List Item)) (cs : List Change) (p : Part) (r q : Range) (names : List Name) (n : ℕ) (x : Delta) (j : Job) (table : ℕ) → Adds d fs cs p r names x → j.minimum ≤ d.minimum
+    → AllByRecursion (λ v. j.minimum < v.ts) (merged_in d.catalogue (with_one d n x).shelf (x.id ∷ []) q table)
+new_late d fs cs p r q names n x j table a low =
     let pend = seen_pending (source_of fs) d.catalogue names table in
-    let e : merged_in d.catalogue (with_one d n x).shelf (x.id ∷ []) r table ≡ clip r pend
-    = ap (λ (o : Option Delta). clip r (merge (map (carried_versions d.catalogue table) (cons_option o [])))) (new_named d.shelf x a.below) ∙ ap (λ (vs : List RowVersion). clip r (merge (vs ∷ []))) (a.carries table)
-    ∙ ap (clip r) (merge-alone pend (pending_ordered (source_of fs) d.catalogue names table a.pending.ordered)) in
-    subst (AllByRecursion (λ v. j.minimum < v.ts)) (sym e) (all_from (λ v. j.minimum < v.ts) (clip r pend) (λ v h.
-    let late : p.resume < v.ts = late_version d.catalogue (source_of fs) p r table v (pended d.catalogue d (source_of fs) cs p r names table v a.pending (from-filter (λ v. in_range v.key r) pend v h).0) in
+    let e : merged_in d.catalogue (with_one d n x).shelf (x.id ∷ []) q table ≡ clip q pend
+    = ap (λ (o : Option Delta). clip q (merge (map (carried_versions d.catalogue table) (cons_option o [])))) (new_named d.shelf x a.below) ∙ ap (λ (vs : List RowVersion). clip q (merge (vs ∷ []))) (a.carries table)
+    ∙ ap (clip q) (merge-alone pend (pending_ordered (source_of fs) d.catalogue names table a.pending.ordered)) in
+    subst (AllByRecursion (λ v. j.minimum < v.ts)) (sym e) (all_from (λ v. j.minimum < v.ts) (clip q pend) (λ v h.
+    let late : p.resume < v.ts = late_version d.catalogue (source_of fs) p r table v (pended d.catalogue d (source_of fs) cs p r names table v a.pending (from-filter (λ v. in_range v.key q) pend v h).0) in
     let min : d.minimum ≤ p.resume = a.sound.minimum in omega (arith, late, min, low)))
 
 pub stands_added : (d : Durable) (fs : List (Header × List Item)) (cs : List Change) (p : Part) (r : Range) (names : List Name) (n : ℕ) (x : Delta) (j : Job) → Adds d fs cs p r names x → j.minimum ≤ d.minimum → StandsAt d j p r → StandsAt (with_one d n x) j (lists_too x p) r
 stands_added d fs cs p r names n x j a low h l = let k = h l in (
   lists_more p.ids (x.id ∷ []) j.inputs k.0,
-  (λ m. all_append (Rest (with_one d n x) j r) p.ids (x.id ∷ []) (all_rest d n x j r p.ids a.known (k.1 m)) (inr (λ table. new_late d fs cs p r names n x j table a low), tt)),
+  (λ m. all_append (Rest (with_one d n x) j (common r j.range)) p.ids (x.id ∷ []) (all_rest d n x j (common r j.range) p.ids a.known (k.1 m)) (inr (λ table. new_late d fs cs p r (common r j.range) names n x j table a low), tt)),
 )

@@ -17,7 +17,7 @@ use Rattle.lt_laws.proofs.StepLaws.{good_sound}
 -- ---- what a command that fails would have left
 
 -- a reopening reads what stood; any other command would have left what the machine does
-would_do : (c : Command) (feed : Feed) (source : List Change) (s : State) (d : Durable) → WouldLeave feed source s c d → (d ≡ unwrap_or s.broken s.durable) ⊎ ((a : Answer) × (s' : State) × Does feed source s c a s' × (d ≡ s'.durable))
+pub would_do : (c : Command) (feed : Feed) (source : List Change) (s : State) (d : Durable) → WouldLeave feed source s c d → (d ≡ unwrap_or s.broken s.durable) ⊎ ((a : Answer) × (s' : State) × Does feed source s c a s' × (d ≡ s'.durable))
 would_do (do_schema t) feed source s d w = inr w
 would_do (do_retire t v) feed source s d w = inr w
 would_do (do_pump n k) feed source s d w = inr w
@@ -82,7 +82,7 @@ took_some do_reopen feed fs s s' good failed t = absurd t
 
 -- ---- all faults
 
-disk_unrefused : (s : State) (c : Command) (r : Refusal) → IsTrue (is_disk_fault r) → (r ≡ out_of_memory) ⊎ (refused s c ≡ None) → refused s c ≡ None
+pub disk_unrefused : (s : State) (c : Command) (r : Refusal) → IsTrue (is_disk_fault r) → (r ≡ out_of_memory) ⊎ (refused s c ≡ None) → refused s c ≡ None
 disk_unrefused s c r disk (inl e) = let f : false ≡ true = sym (ap is_disk_fault e) ∙ disk in absurd cc
 disk_unrefused s c r disk (inr e) = e
 

@@ -28,7 +28,7 @@ use Rattle.lt_laws.proofs.PointLaws.{when_none}
 use Rattle.lt_laws.proofs.PointsAfter.{entries_after, points_sound, streams_length}
 use Rattle.lt_laws.proofs.ScanLaws.{IsPassed, passed_all, seen_in}
 use Rattle.lt_laws.proofs.SoundLaws.{before-take, changes-take, checkpoint-is, kept-by, least-all, open-items, pick}
-use Rattle.lt_laws.proofs.SplitLaws.{Each, IsWholeIn, StandsAt, each_sound, each_zipped, lows_of, sound_each, zipped_each}
+use Rattle.lt_laws.proofs.SplitLaws.{Each, StandsAt, each_sound, each_zipped, lows_of, sound_each, zipped_each}
 use Rattle.lt_laws.proofs.StepLaws.{KeepsDoing, if_some, next_generation, unrefused}
 
 -- ---- the checkpoint of a partition
@@ -163,8 +163,6 @@ job_raised s n t j h =
       subst (λ (ts : List Range). AllByRecursion (λ y. StandsAt e j y.0 y.1) (zip e.parts ts)) (sym same_ranges)
           (each_zipped (StandsAt e j) e.parts rs (each_changed (StandsAt d j) (StandsAt e j) (with_resume t) n d.parts rs (λ p r a. a) (λ p r i k a. a) (zipped_each (StandsAt d j) d.parts h.0))),
       record {
-        range = subst (λ (ts : List Range). AllByRecursion (λ y. IsWholeIn j y.1) (zip e.parts ts)) (sym same_ranges)
-            (each_zipped (λ p r. IsWholeIn j r) e.parts rs (each_changed (λ p r. IsWholeIn j r) (λ p r. IsWholeIn j r) (with_resume t) n d.parts rs (λ p r a. a) (λ p r i k a. a) (zipped_each (λ p r. IsWholeIn j r) d.parts h.1.range)));
         shelved = h.1.shelved;
         catalogue = h.1.catalogue;
         lawful = h.1.lawful;
@@ -239,7 +237,7 @@ all_stored_none s fs p r names e h c i w l = elim (h.none_lost c i w l) [
 ]
 
 -- what the streams have passed is the source's
-passed_from : (fs : List (Header × List Item)) (ss : List StreamAt) → AreAtPlaces fs ss → AllByRecursion (Contains (source_of fs)) (passed fs ss)
+pub passed_from : (fs : List (Header × List Item)) (ss : List StreamAt) → AreAtPlaces fs ss → AllByRecursion (Contains (source_of fs)) (passed fs ss)
 passed_from [] [] a = tt
 passed_from [] (s ∷ ss) a = absurd a
 passed_from (f ∷ fs) [] a = absurd a

@@ -4,7 +4,7 @@ use Rattle.std.specs.Prelude.{Contains, IfSome, IsTrue, None, Option, Some, filt
 use Rattle.std.specs.List.{AllByRecursion, cons_option, list_any}
 use Rattle.std.specs.Option.{option_map_or}
 use Rattle.std.proofs.lemmas.Bool.{and_from, false≢true, not-false}
-use Rattle.lt_model.specs.Key.{Range, below, first_bound, in_range, is_below_high, lies_in, meets, rise}
+use Rattle.lt_model.specs.Key.{Range, below, common, first_bound, in_range, is_below_high, meets, rise}
 use Rattle.lt_model.specs.Schema.{Catalogue, as_it_was, carriers}
 use Rattle.lt_model.specs.Version.{RowVersion, clip, coerce_all, coerced, least_ts, merge, put_version, put_versions, same_name, stands_before}
 use Rattle.lt_model.specs.Store.{AreLawfulTables, Delta, Durable, IsLawfulPart, Part, TableDelta, table_of, versions_in, all_versions, carried_versions, delta_with, deltas_of, merged_in, part_ranges}
@@ -15,11 +15,11 @@ use Rattle.lt_model.specs.Sound.{IsGood, JobBegan, JobStands, ListsAll}
 use Rattle.lt_laws.proofs.DurableFacts.{IsKnown, inputs_known}
 use Rattle.lt_laws.proofs.ListFacts.{all_at, all_from, all_map, find_held, find_none, flat_held, from_filter_map, from_map, none_mapped}
 use Rattle.lt_laws.proofs.ReadLaws.{or_left, or_right}
-use Rattle.lt_laws.proofs.RangeLaws.{IsOutOf, IsSole, tile_rises, tile_sole}
+use Rattle.lt_laws.proofs.RangeLaws.{IsOutOf, IsSole, tile_sole}
 use Rattle.lt_laws.proofs.ScanLemmas.{from-filter, in-filter}
 use Rattle.lt_laws.proofs.ScanLaws.{tiles_of}
-use Rattle.lt_laws.proofs.SoundLaws.{meets-by, pick}
-use Rattle.lt_laws.proofs.SplitLaws.{Each, IsWholeIn, StandsAt, each_as, each_zipped, in_lies, lies_itself, lows_of, meets_some, not_below_itself, rise_first, rise_rest}
+use Rattle.lt_laws.proofs.SoundLaws.{pick}
+use Rattle.lt_laws.proofs.SplitLaws.{Each, RestsIn, StandsAt, each_as, each_zipped, lows_of, meets_some, not_below_itself, rise_first, rise_rest}
 use Rattle.lt_laws.proofs.StepLaws.{KeepsDoing, unrefused}
 
 -- ---- of ranges that tile, the chosen one meets no other
@@ -60,18 +60,18 @@ as_many [] = refl
 as_many (p ∷ ps) = ap suc (as_many ps)
 
 -- each has its low bound
-abbrev HasLow : Range → Type 0
+abbrev pub HasLow : Range → Type 0
 HasLow r = in_range r.low r ≡ true
 
 low_within : (low : List ℕ) (o : Option (List ℕ)) → ((b : List ℕ) → o ≡ Some b → below low b ≡ true) → is_below_high low o ≡ true
 low_within low None f = refl
 low_within low (Some b) f = f b refl
 
-all_have_low : (ps : List Part) → IsTrue (rise (lows_of ps)) → Each (λ p r. HasLow r) ps (part_ranges ps)
+pub all_have_low : (ps : List Part) → IsTrue (rise (lows_of ps)) → Each (λ p r. HasLow r) ps (part_ranges ps)
 all_have_low [] h = tt
 all_have_low (p ∷ ps) h = (and_from _ _ (ap not (not_below_itself p.low)) (low_within p.low (first_bound (lows_of ps)) (λ b e. rise_first p.low b (lows_of ps) h e)), all_have_low ps (rise_rest p.low (lows_of ps) h))
 
-both_each : (P Q R : Part → Range → Type 0) (ps : List Part) (rs : List Range) → ((p : Part) (r : Range) → P p r → Q p r → R p r) → Each P ps rs → Each Q ps rs → Each R ps rs
+pub both_each : (P Q R : Part → Range → Type 0) (ps : List Part) (rs : List Range) → ((p : Part) (r : Range) → P p r → Q p r → R p r) → Each P ps rs → Each Q ps rs → Each R ps rs
 both_each P Q R [] rs f a b = tt
 both_each P Q R (p ∷ ps) [] f a b = a
 both_each P Q R (p ∷ ps) (r ∷ rs) f a b = (f p r a.0 b.0, both_each P Q R ps rs f a.1 b.1)
@@ -176,19 +176,16 @@ job_begun_stands s n p r mode e f known lawful =
     let rs = ranges_of d in
     let tiles = tiles_of d lawful in
     let apart = chosen_apart n ps rs p r (λ key. tile_sole key (lows_of ps) tiles) (as_many ps) e f in
-    let lows = all_have_low ps (tile_rises (lows_of ps) tiles) in
     let listed = inputs_listed s n p mode known in (
-      each_zipped (StandsAt d j) ps rs (both_each (IsItOr p r) (λ q t. HasLow t) (StandsAt d j) ps rs
-          (λ q t a low l. elim a [
+      each_zipped (StandsAt d j) ps rs (each_as (IsItOr p r) (StandsAt d j) ps rs
+          (λ q t a l. elim a [
             | inl k ↦ (
               subst (λ (x : Part). ListsAll x.ids j.inputs) (sym k.0) listed,
-              (λ m. subst (λ (x : Part). AllByRecursion (λ id. IsTrue (list_any (λ i. i == id) j.inputs) ⊎ ((table : ℕ) → AllByRecursion (λ v. j.minimum < v.ts) (merged_in d.catalogue d.shelf (id ∷ []) t table))) x.ids)
-                  (sym k.0) (rest_stands d p t mode m)),
+              (λ m. subst (λ (x : Part). AllByRecursion (RestsIn d j (common t j.range)) x.ids) (sym k.0) (rest_stands d p (common t j.range) mode m)),
             )
-            | inr f ↦ absurd (f (meets-by t.low t r low (in_lies t.low t r l low)))
-          ]) apart lows),
+            | inr f ↦ absurd (f l)
+          ]) apart),
       record {
-        range = each_zipped (λ q t. IsWholeIn j t) ps rs (each_as (IsItOr p r) (λ q t. IsWholeIn j t) ps rs (λ q t a m. elim a [ inl k ↦ subst (λ (x : Range). lies_in x r ≡ true) (sym k.1) (lies_itself r) | inr f ↦ absurd (f m) ]) apart);
         shelved = all_map (IsKnown d) (λ i. IsTrue (is_some (delta_with d.shelf i))) j.inputs (λ i k. k.0) (inputs_known d n p j.inputs lawful e listed);
         catalogue = as_it_was;
         lawful = lawful.manifest.catalogue;
@@ -231,7 +228,6 @@ went_on : (s : State) (n : ℕ) (j : Job) → JobStands s.durable j × JobBegan 
 went_on s n j h = (
   h.0,
   record {
-    range = h.1.range;
     shelved = h.1.shelved;
     catalogue = h.1.catalogue;
     lawful = h.1.lawful;

@@ -135,7 +135,7 @@ settled_goes : (from to : List Leaf) (b : Bool) (m : ℕ) (vs : List RowVersion)
 settled_goes from to true m vs a = collapse_goes from to m vs a
 settled_goes from to false m vs a = refl
 
-composed_key : (w v : RowVersion) → (compose w v).key ≡ v.key
+pub composed_key : (w v : RowVersion) → (compose w v).key ≡ v.key
 unfolding compose
 composed_key w v = refl
 

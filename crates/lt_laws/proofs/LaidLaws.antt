@@ -250,7 +250,7 @@ goes_laid cf cs cells a c served =
 
 -- ---- one list of cells laid over another
 
-over_fits : (l : Leaf) (x y : Cell) → IsTrue (suits l x) → IsTrue (suits l y) → IsTrue (suits l (over x y))
+pub over_fits : (l : Leaf) (x y : Cell) → IsTrue (suits l x) → IsTrue (suits l y) → IsTrue (suits l (over x y))
 over_fits l x y h i = by_unset (is_unset y)
   where
     by_unset : (b : Bool) → IsTrue (suits l (cond b x y))
@@ -260,7 +260,7 @@ over_fits l x y h i = by_unset (is_unset y)
 column_first : (a b : Leaf) → is_below a b ≡ true → (a.column == b.column) ≡ true
 column_first a b h = (and_parts (a.column == b.column) (nat_lt (length a.path) (length b.path)) (and_parts ((a.column == b.column) && nat_lt (length a.path) (length b.path)) (starts_with nat_eq b.path a.path) h).0).0
 
-alike : (a b : Leaf) (x y : Cell) → IsTrue (agree (a, x) (b, y)) → (a.column == b.column) ≡ true → is_unset x ≡ is_unset y
+pub alike : (a b : Leaf) (x y : Cell) → IsTrue (agree (a, x) (b, y)) → (a.column == b.column) ≡ true → is_unset x ≡ is_unset y
 alike a b x y h e = same_truths (is_unset x) (is_unset y) (so (a.column == b.column) (same_truth (is_unset x) (is_unset y)) e (and_parts (not (a.column == b.column) || same_truth (is_unset x) (is_unset y)) (not (is_below a b && says_absent a x) || is_void b y) h).0)
   where
     so : (x y : Bool) → x ≡ true → (not x || y) ≡ true → y ≡ true
@@ -272,7 +272,7 @@ alike a b x y h e = same_truths (is_unset x) (is_unset y) (so (a.column == b.col
     same_truths false true h = h
     same_truths false false h = refl
 
-over_agrees : (a b : Leaf) (x y u v : Cell) → IsTrue (agree (a, x) (b, y)) → IsTrue (agree (a, u) (b, v)) → IsTrue (agree (a, over x u) (b, over y v))
+pub over_agrees : (a b : Leaf) (x y u v : Cell) → IsTrue (agree (a, x) (b, y)) → IsTrue (agree (a, u) (b, v)) → IsTrue (agree (a, over x u) (b, over y v))
 over_agrees a b x y u v h i = by_column (a.column == b.column) refl
   where
     apart : (a.column == b.column) ≡ false → is_below a b ≡ false

@@ -21,6 +21,7 @@ pub mod TakenLaws
 -- Rows, snapshots and what is stored of them.
 pub mod RowLemmas
 pub mod SnapshotLaws
+pub mod Endurance
 pub mod EntryLaws
 pub mod ScanLemmas
 pub mod ReadLaws
@@ -40,6 +41,7 @@ pub mod LaidLaws
 pub mod CollapseLaws
 pub mod CutLaws
 pub mod ShelfGrowth
+pub mod NeverFalls
 pub mod NewDelta
 pub mod CatalogueSteps
 pub mod FrontStands

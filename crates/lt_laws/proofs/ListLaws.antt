@@ -132,7 +132,7 @@ with-group v [] = refl
 with-group v ([] ∷ gs) = refl
 with-group v ((w ∷ ws) ∷ gs) = with-group-by v w ws gs (same_key v.key w.key)
 
-grouped-flat : (vs : List RowVersion) → flat_map (λ b. b) (grouped vs) ≡ vs
+pub grouped-flat : (vs : List RowVersion) → flat_map (λ b. b) (grouped vs) ≡ vs
 grouped-flat [] = refl
 grouped-flat (v ∷ vs) = with-group v (grouped vs) ∙ ap (λ l. v ∷ l) (grouped-flat vs)
 

@@ -55,7 +55,7 @@ seen_one : (cat : Catalogue) (c : Change) (cs : List Change) (vs : List RowVersi
 seen_one cat c cs vs true e = ap (λ (x : List RowVersion). seen cat c ∷ x) e
 seen_one cat c cs vs false e = e
 
-memory_seen : (cat : Catalogue) (source : List Change) (table : ℕ) (cs : List Change) → AreInTime source → AllByRecursion (Contains source) cs → seen_pending source cat (map name_of cs) table ≡ memory_versions cat cs table
+pub memory_seen : (cat : Catalogue) (source : List Change) (table : ℕ) (cs : List Change) → AreInTime source → AllByRecursion (Contains source) cs → seen_pending source cat (map name_of cs) table ≡ memory_versions cat cs table
 memory_seen cat source table [] time a = refl
 memory_seen cat source table (c ∷ cs) time a =
     ap (λ (o : Option Change). cons_option (option_map (seen cat) o) (seen_pending source cat (map name_of cs) table))

@@ -170,7 +170,7 @@ named-ts key t v h = eqb-true v.ts t (and_parts (same_key key v.key) (v.ts == t)
 pub named-itself : (v : RowVersion) → named v.key v.ts v ≡ true
 named-itself v = and_from (same_key v.key v.key) (v.ts == v.ts) (same-itself v.key) (eq-eqb v.ts v.ts refl)
 
-named-same : (key : List ℕ) (t : ℕ) (v w : RowVersion) → same_name v w ≡ true → named key t v ≡ named key t w
+pub named-same : (key : List ℕ) (t : ℕ) (v w : RowVersion) → same_name v w ≡ true → named key t v ≡ named key t w
 named-same key t v w h = let p = and_parts (same_key v.key w.key) (v.ts == w.ts) h in let k = same-key v.key w.key p.0 in let u = eqb-true v.ts w.ts p.1 in
     ap (λ x. same_key key x && v.ts == t) k ∙ ap (λ x. same_key key w.key && x == t) u
 

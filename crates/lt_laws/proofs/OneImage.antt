@@ -59,7 +59,7 @@ one_slot : (image : List ℕ) (r s : Root) → IsSlot image r → IsSlot image s
 one_slot image r s h i same = body_once r s (fits_slot r h.lawful) (fits_slot s i.lawful) same (sym h.spells ∙ ap (λ (slot : ℕ). bytes_at image (slot_place slot) 511) same ∙ i.spells)
 
 -- where both slots are open, the one that counts has the greater generation
-greater_than : (image : List ℕ) (r s : Root) → CountsAsRoot image r → IsSlot image s → s.slot ≡ 1 - r.slot → s.generation < r.generation
+pub greater_than : (image : List ℕ) (r s : Root) → CountsAsRoot image r → IsSlot image s → s.slot ≡ 1 - r.slot → s.generation < r.generation
 greater_than image r s c i e =
     let other = c.greater (subst (λ (slot : ℕ). IsTrue (is_open image slot)) e i.open_now) in
     let same : other.0 ≡ s = one_slot image other.0 s other.1 i (other.2 ∙ sym e) in

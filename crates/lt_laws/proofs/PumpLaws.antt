@@ -197,7 +197,7 @@ front_length : {A : Type 0} (i : ℕ) (xs : List A) → i ≤ length xs → leng
 front_length i xs h = omega (arith, length-take i xs, h)
 
 -- in a format that is read no stream is closed, so none enters
-none_enter : (f : Format) (items : List Item) (gs : List Header) → IsTrue (is_read f) → AllByRecursion (λ i. IsTrue (is_item f i)) items → entering items gs → gs ≡ []
+pub none_enter : (f : Format) (items : List Item) (gs : List Header) → IsTrue (is_read f) → AllByRecursion (λ i. IsTrue (is_item f i)) items → entering items gs → gs ≡ []
 none_enter f [] gs r a e = e
 none_enter f (header_item h ∷ items) gs r a e = none_enter f items gs r a.1 e
 none_enter f (change_item c ∷ items) gs r a e = none_enter f items gs r a.1 e

@@ -128,7 +128,7 @@ resumes_all t [] a = tt
 resumes_all t (p ∷ ps) a = (a.0, resumes_all t ps a.1)
 
 job_retained : (d : Durable) (t : ℕ) (j : Job) → d.minimum ≤ t → JobBegan d j → JobBegan (with_minimum d t) j
-job_retained d t j low h = record { range = h.range; shelved = h.shelved; catalogue = h.catalogue; lawful = h.lawful; inputs = h.inputs; minimum = (let l : j.minimum ≤ d.minimum = h.minimum in omega (arith, l, low)); taken = h.taken }
+job_retained d t j low h = record { shelved = h.shelved; catalogue = h.catalogue; lawful = h.lawful; inputs = h.inputs; minimum = (let l : j.minimum ≤ d.minimum = h.minimum in omega (arith, l, low)); taken = h.taken }
 
 pub retain_keeps : (t : ℕ) → KeepsDoing (do_retain t)
 retain_keeps t feed fs s s' a good e d =

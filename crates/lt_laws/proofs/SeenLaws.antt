@@ -58,7 +58,7 @@ laid_lawful ls h a = subst (λ (xs : Cells). IsTrue ((length ls == length (map h
 
 -- ---- lawful cells, read again by their own layout
 
-set_back : (r : Rank) (y : Cell) → is_unset y ≡ false → cell_of (value_of r y) ≡ y
+pub set_back : (r : Rank) (y : Cell) → is_unset y ≡ false → cell_of (value_of r y) ≡ y
 set_back r unset u = absurd (false≢true (sym u))
 set_back r null_cell u = refl
 set_back r (bool_cell b) u = refl
@@ -69,7 +69,7 @@ set_back rank.Int64 (bytes_cell t) u = refl
 set_back rank.Text (bytes_cell t) u = refl
 set_back rank.Bytes (bytes_cell t) u = refl
 
-to_own : (r : Rank) (y : Cell) → IsOfRank r y → cell_to r r y ≡ y
+pub to_own : (r : Rank) (y : Cell) → IsOfRank r y → cell_to r r y ≡ y
 to_own r y h = by_set (is_unset y) refl
   where
     by_set : (u : Bool) → is_unset y ≡ u → cell_to r r y ≡ y
@@ -216,7 +216,7 @@ four n = refl
 long_key : (c : Change) → 4 ≤ length (change_key c)
 long_key c = let l = length-append (u32 c.table) (flat_map part_bytes c.key) in let f = four c.table in omega (arith, l, f)
 
-unset_all : (ls : List Leaf) → IsTrue (list_all is_unset (flatten ls []))
+pub unset_all : (ls : List Leaf) → IsTrue (list_all is_unset (flatten ls []))
 unset_all [] = refl
 unset_all (l ∷ ls) = unset_all ls
 

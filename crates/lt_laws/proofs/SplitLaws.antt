@@ -228,7 +228,7 @@ first_by : (key : List ℕ) (p : Part) (xs ys : List Part) (b : Bool) → first_
 first_by key p xs ys true = refl
 first_by key p xs ys false = refl
 
-first_stays : (key : List ℕ) (ps : List Part) → first_bound (lows_of (split_at key ps)) ≡ first_bound (lows_of ps)
+pub first_stays : (key : List ℕ) (ps : List Part) → first_bound (lows_of (split_at key ps)) ≡ first_bound (lows_of ps)
 first_stays key [] = refl
 first_stays key (p ∷ ps) = first_by key p (record p { low = key } ∷ ps) (split_at key ps) (in_range key (record { low = p.low; high = first_bound (lows_of ps) }))
 
@@ -320,12 +320,12 @@ pending_split d all cs key (p ∷ ps) (ns ∷ rest) a = pending_by d all cs key 
 
 -- ---- an open job
 
-abbrev pub StandsAt : Durable → Job → Part → Range → Type 0
-StandsAt d j p r = IsTrue (lies_in r j.range) → ListsAll p.ids j.inputs × (IsTrue j.is_major
-    → AllByRecursion (λ id. IsTrue (list_any (λ i. i == id) j.inputs) ⊎ ((table : ℕ) → AllByRecursion (λ v. j.minimum < v.ts) (merged_in d.catalogue d.shelf (id ∷ []) r table))) p.ids)
+-- a delta is an input, or holds only versions above the job's minimum in a range
+abbrev pub RestsIn : Durable → Job → Range → ℕ → Type 0
+RestsIn d j r id = IsTrue (list_any (λ i. i == id) j.inputs) ⊎ ((table : ℕ) → AllByRecursion (λ v. j.minimum < v.ts) (merged_in d.catalogue d.shelf (id ∷ []) r table))
 
-abbrev pub IsWholeIn : Job → Range → Type 0
-IsWholeIn j r = IsTrue (meets r j.range) → IsTrue (lies_in r j.range)
+abbrev pub StandsAt : Durable → Job → Part → Range → Type 0
+StandsAt d j p r = IsTrue (meets r j.range) → ListsAll p.ids j.inputs × (IsTrue j.is_major → AllByRecursion (RestsIn d j (common r j.range)) p.ids)
 
 -- a range with a key, within another
 record HasKey (q r : Range) : Type 0 where
@@ -333,23 +333,27 @@ record HasKey (q r : Range) : Type 0 where
   key : List ℕ
   inside : in_range key q ≡ true
 
-later_within : (d : Durable) (q r : Range) (m id table : ℕ) → lies_in q r ≡ true → AllByRecursion (λ v. m < v.ts) (merged_in d.catalogue d.shelf (id ∷ []) r table) → AllByRecursion (λ v. m < v.ts) (merged_in d.catalogue d.shelf (id ∷ []) q table)
+-- the keys of one range are among those of another
+abbrev pub AreAmong : Range → Range → Type 0
+AreAmong q r = (key : List ℕ) → in_range key q ≡ true → in_range key r ≡ true
+
+pub later_within : (d : Durable) (q r : Range) (m id table : ℕ) → AreAmong q r → AllByRecursion (λ v. m < v.ts) (merged_in d.catalogue d.shelf (id ∷ []) r table) → AllByRecursion (λ v. m < v.ts) (merged_in d.catalogue d.shelf (id ∷ []) q table)
 later_within d q r m id table l a =
     let vs = merge (map (carried_versions d.catalogue table) (deltas_of d.shelf (id ∷ []))) in
-    all_from (λ v. m < v.ts) (clip q vs) (λ v h. all_at (λ v. m < v.ts) (clip r vs) v a (clip_in q r vs v l h))
+    all_from (λ v. m < v.ts) (clip q vs) (λ v h. let f = from-filter (λ v. in_range v.key q) vs v h in all_at (λ v. m < v.ts) (clip r vs) v a (in-filter (λ v. in_range v.key r) vs v f.0 (l v.key f.1)))
 
-job_within : (d : Durable) (j : Job) (p : Part) (low : List ℕ) (q r : Range) → HasKey q r → StandsAt d j p r × IsWholeIn j r → StandsAt d j (record p { low = low }) q × IsWholeIn j q
-job_within d j p low q r k h =
-    let in_r : in_range k.key r ≡ true = in_lies k.key q r k.lies k.inside in (
-      (λ l. let whole = h.1 (meets-by k.key r j.range in_r (in_lies k.key q j.range l k.inside)) in
-          let a = h.0 whole in (
-            a.0,
-            (λ m. all_map (λ id. IsTrue (list_any (λ i. i == id) j.inputs) ⊎ ((table : ℕ) → AllByRecursion (λ v. j.minimum < v.ts) (merged_in d.catalogue d.shelf (id ∷ []) r table)))
-                (λ id. IsTrue (list_any (λ i. i == id) j.inputs) ⊎ ((table : ℕ) → AllByRecursion (λ v. j.minimum < v.ts) (merged_in d.catalogue d.shelf (id ∷ []) q table))) p.ids
-                (λ id x. elim x [ inl i ↦ inl i | inr f ↦ inr (λ table. later_within d q r j.minimum id table k.lies (f table)) ]) (a.1 m)),
-          )),
-      (λ m. let s = meets_some q j.range m in lies_trans q r j.range k.lies (h.1 (meets-by s.0 r j.range (in_lies s.0 q r k.lies s.1) s.2))),
-    )
+pub rests_within : (d : Durable) (j : Job) (q r : Range) (ids : List ℕ) → AreAmong q r → AllByRecursion (RestsIn d j r) ids → AllByRecursion (RestsIn d j q) ids
+rests_within d j q r ids l a = all_map (RestsIn d j r) (RestsIn d j q) ids (λ id x. elim x [ inl i ↦ inl i | inr f ↦ inr (λ table. later_within d q r j.minimum id table l (f table)) ]) a
+
+-- what two ranges have in common, they have where one is the smaller
+common_among : (q r t : Range) → lies_in q r ≡ true → AreAmong (common q t) (common r t)
+common_among q r t l key h = let k = and_parts (in_range key q) (in_range key t) (sym (in-common key q t) ∙ h) in
+    in-common key r t ∙ and_from _ _ (in_lies key q r l k.0) k.1
+
+job_within : (d : Durable) (j : Job) (p : Part) (low : List ℕ) (q r : Range) → HasKey q r → StandsAt d j p r → StandsAt d j (record p { low = low }) q
+job_within d j p low q r k h m = let s = meets_some q j.range m in
+    let a = h (meets-by s.0 r j.range (in_lies s.0 q r k.lies s.1) s.2) in
+    (a.0, (λ w. rests_within d j (common q j.range) (common r j.range) p.ids (common_among q r j.range k.lies) (a.1 w)))
 
 -- the key is not a partition's low bound
 abbrev NotLow : List ℕ → Part → Type 0
@@ -377,22 +381,13 @@ each_pair P Q (p ∷ ps) (r ∷ rs) a b = ((a.0, b.0), each_pair P Q ps rs a.1 b
 job_split : (d : Durable) (j : Job) (key : List ℕ) → AllByRecursion (NotLow key) d.parts → JobStands d j × JobBegan d j → JobStands (with_parts d (split_at key d.parts)) j × JobBegan (with_parts d (split_at key d.parts)) j
 job_split d j key n h =
     let ps = split_at key d.parts in
-    let P = λ (p : Part) (r : Range). StandsAt d j p r × IsWholeIn j r in
-    let was : Each P d.parts (part_ranges d.parts) = each_pair (StandsAt d j) (λ p r. IsWholeIn j r) d.parts (part_ranges d.parts) (zipped_each (StandsAt d j) d.parts h.0) (zipped_each (λ p r. IsWholeIn j r) d.parts h.1.range) in
+    let P = λ (p : Part) (r : Range). StandsAt d j p r in
     let now : Each P ps (part_ranges ps) = each_split (λ p r. P p r × NotLow key p) P key d.parts (
       (λ p r x. x.0),
       (λ p r e w x. (job_within d j p p.low (lower_of r key) r (lower_has key r p.low e x.1 w) x.0, job_within d j p key (upper_of r key) r (upper_has key r w) x.0)),
-    ) (with_lows P key d.parts (part_ranges d.parts) was n) in (
-      each_zipped (StandsAt d j) ps (part_ranges ps) (each_as P (StandsAt d j) ps (part_ranges ps) (λ p r x. x.0) now),
-      record {
-        range = each_zipped (λ p r. IsWholeIn j r) ps (part_ranges ps) (each_as P (λ p r. IsWholeIn j r) ps (part_ranges ps) (λ p r x. x.1) now);
-        shelved = h.1.shelved;
-        catalogue = h.1.catalogue;
-        lawful = h.1.lawful;
-        inputs = h.1.inputs;
-        minimum = h.1.minimum;
-        taken = h.1.taken;
-      },
+    ) (with_lows P key d.parts (part_ranges d.parts) (zipped_each (StandsAt d j) d.parts h.0) n) in (
+      each_zipped (StandsAt d j) ps (part_ranges ps) now,
+      record { shelved = h.1.shelved; catalogue = h.1.catalogue; lawful = h.1.lawful; inputs = h.1.inputs; minimum = h.1.minimum; taken = h.1.taken },
     )
 
 -- ---- the manifest

@@ -152,7 +152,7 @@ reopen_keeps feed fs s s' a good failed step = (
 
 -- ---- what holds where the state does not refuse a command
 
-abbrev refusals : State → Command → List (Option Refusal)
+abbrev pub refusals : State → Command → List (Option Refusal)
 refusals s c =
     when (is_broken s && is_write c) needs_reopen
     ∷ when (is_worn s.durable && is_write c) worn
@@ -165,6 +165,7 @@ refusals s c =
     ∷ not_done_yet s c ∷ []
 
 pub record Unrefused (s : State) (c : Command) : Type 0 where
+  pub whole : when (is_broken s && is_write c) needs_reopen ≡ None
   pub unworn : when (is_worn s.durable && is_write c) worn ≡ None
   pub table : unknown_table_asked s c ≡ None
   pub version : unknown_version_asked s c ≡ None
@@ -184,6 +185,7 @@ pub record Unrefused (s : State) (c : Command) : Type 0 where
 pub unrefused : (s : State) (c : Command) → refused s c ≡ None → Unrefused s c
 unfolding refused
 unrefused s c e = let a = all_none (refusals s c) e in record {
+  whole = a.0;
   unworn = a.1.0;
   table = a.1.1.0;
   version = a.1.1.1.0;

@@ -120,14 +120,14 @@ pub setting_held : (P : ℕ × Value → Type 0) (n : ℕ) (v : Value) (set : Li
 setting_held P n v [] a e = cc
 setting_held P n v (s ∷ set) a e = setting_by P n v s (setting n set) (n == s.0) refl a.0 e (setting_held P n v set a.1)
 
-cell_none : (set : List (ℕ × Value)) (n : ℕ) (l : Leaf) → setting n set ≡ None → l.column ≡ n → cell_in set l ≡ unset
+pub cell_none : (set : List (ℕ × Value)) (n : ℕ) (l : Leaf) → setting n set ≡ None → l.column ≡ n → cell_in set l ≡ unset
 cell_none set n l e k = ap (λ (o : Option Value). option_map_or (leaf_cell l) o unset) (ap (λ (i : ℕ). setting i set) k ∙ e)
 
 none_set_by : (n : ℕ) (l : Leaf) (c : Cell) (r b : Bool) → (l.column == n) ≡ b → (b ≡ true → c ≡ unset) → r ≡ false → ((b && not (is_unset c)) || r) ≡ false
 none_set_by n l c r true e f h = ap (λ (x : Cell). not (is_unset x) || r) (f refl) ∙ h
 none_set_by n l c r false e f h = h
 
-none_set : (set : List (ℕ × Value)) (n : ℕ) (ls : List Leaf) → setting n set ≡ None → sets n (beside (cell_in set) ls) ≡ false
+pub none_set : (set : List (ℕ × Value)) (n : ℕ) (ls : List Leaf) → setting n set ≡ None → sets n (beside (cell_in set) ls) ≡ false
 none_set set n [] e = refl
 none_set set n (l ∷ ls) e = none_set_by n l (cell_in set l) (sets n (beside (cell_in set) ls)) (l.column == n) refl (λ k. cell_none set n l e (eqb-true l.column n k)) (none_set set n ls e)
 

@@ -5,7 +5,7 @@
 
 ghost use Rattle.lt_model.specs.Claims.{WholeClaims};
 ghost use Rattle.lt_model.specs.Fair.{PointSuffices};
-ghost use Rattle.lt_model.specs.Laws.{ConversionLaws, FaultKeeps, FlattensBack, FrontLaws, GrowsLaws, LayoutLaws, ListLaws, MachineLaws, PumpLaws, SessionIsReached, SnapshotLaws, VersionLaws};
+ghost use Rattle.lt_model.specs.Laws.{ConversionLaws, FaultKeeps, FlattensBack, FrontLaws, GrowsLaws, LayoutLaws, ListLaws, MachineLaws, MinimumNeverFalls, PumpLaws, SessionIsReached, SnapshotLaws, VersionLaws};
 ghost use Rattle.lt_model.specs.Outside.{HeldScans, UnrefusedAsks};
 ghost use Rattle.lt_model.specs.Row.{ReadsInOrder};
 ghost use Rattle.lt_model.specs.SchemaText.{TextReadsBack};
@@ -116,6 +116,11 @@ pub fn step_keeps()
 /// A fault in place of an answer leaves a good session.
 pub fn fault_keeps()
     ensures { FaultKeeps }
+{}
+
+/// The minimum falls at no command, nor at a fault.
+pub fn minimum_never_falls()
+    ensures { MinimumNeverFalls }
 {}
 
 /// The laws of rows, streams, snapshots, steps, faults and scans in one.

@@ -1,5 +1,5 @@
 -- A disk, and what a crash may leave of it.
-use Rattle.std.specs.Prelude.{IfSome, List, OnErr, OnOk, Option, Result, Some, drop, length, min, replicate, slice_index, take, ℕ, ◌++◌, ◌+◌, ◌-◌, ◌<◌, ◌^◌, ◌≡◌, ◌≤◌, ◌⊎◌}
+use Rattle.std.specs.Prelude.{IfSome, IsSome, List, OnErr, OnOk, Option, Result, Some, drop, length, min, replicate, slice_index, take, ℕ, ◌++◌, ◌+◌, ◌-◌, ◌<◌, ◌^◌, ◌↔◌, ◌≡◌, ◌≤◌, ◌⊎◌}
 use Rattle.lt_model.specs.declared.Extent.{Extent}
 
 -- ---- bytes of an image; past its end all bytes are 0
@@ -47,13 +47,6 @@ pub record Elapses (before now : ℕ) (past since : ℕ → List ℕ → Type 0)
   pub nothing_else : (t : ℕ) (c : List ℕ) → t ≤ before → since t c → past t c ⊎ may_leave c
   pub keeps : (t : ℕ) (c : List ℕ) → t ≤ before → past t c → since t c
 
--- a crash at any moment since old leaves an image that has P
-pub record LeavesOnly {D : Type 0} (moment : D → ℕ) (left_since : D → ℕ → List ℕ → Type 0) (old new : D) (P : List ℕ → Type 0) : Type 0 where
-  pub later : moment old ≤ moment new
-  pub each : (c : List ℕ) → left_since new (moment old) c → P c
-  -- for a run that began earlier
-  pub before : (t : ℕ) (c : List ℕ) → t ≤ moment old → left_since new t c → left_since old t c ⊎ P c
-
 -- ---- counts of faults
 
 -- a count rose, or stands at its end
@@ -78,3 +71,40 @@ Reads told place buf = IfSome told (λ image. buf ≡ bytes_at image place (leng
 
 abbrev pub Told : Option (List ℕ) → List ℕ → Type 0
 Told told image = told ≡ Some image
+
+-- ---- a disk as its callers know it
+
+-- What it tells of its bytes; how often it failed, and how often in a write or a sync; how many reads were made; its clock; what a crash
+-- may leave now, and what one may have left since a moment.
+pub record DiskState : Type 1 where
+  pub told : Option (List ℕ)
+  pub faults : ℕ
+  pub write_faults : ℕ
+  pub reads : ℕ
+  pub clock : ℕ
+  pub leaves : List ℕ → Type 0
+  pub left_since : ℕ → List ℕ → Type 0
+
+-- What calls leave of a disk.
+pub record DiskGoes (old new : DiskState) : Type 0 where
+  -- it exposes its bytes as before
+  pub stays : IsSome old.told ↔ IsSome new.told
+  -- the count of faults did not fall
+  pub faults : old.faults ≤ new.faults
+  -- nor that of failed writes and syncs
+  pub write_faults : old.write_faults ≤ new.write_faults
+  -- nor that of reads
+  pub reads : old.reads ≤ new.reads
+  -- the clock went on
+  pub clock : old.clock ≤ new.clock
+  -- what a crash may have left since a moment before it may have left now too
+  pub past : (t : ℕ) (image : List ℕ) → t ≤ old.clock → old.left_since t image → new.left_since t image
+
+-- Each image that a crash may leave during the calls has P.
+pub record LeftOnly (old new : DiskState) (P : List ℕ → Type 0) : Type 0 where
+  -- the clock went on
+  pub later : old.clock ≤ new.clock
+  -- what a crash left since the calls began has P
+  pub each : (image : List ℕ) → new.left_since old.clock image → P image
+  -- what one left since an earlier moment it had left before the calls, or it has P
+  pub before : (t : ℕ) (image : List ℕ) → t ≤ old.clock → new.left_since t image → old.left_since t image ⊎ P image

@@ -73,7 +73,7 @@ edge_in es key = option_map (λ x. x.0) (find (λ x. same_key x.1.low key) (numb
 abbrev pub split_fault : List PartEntry → List ℕ → Option SplitRefusal
 split_fault es key = option_or (option_map refusals.AtEdge (edge_in es key)) (when (nat_le 1024 (length es)) refusals.TooManyParts)
 
--- what a refusal says of the key and the partitions: nothing where memory is wanting
+-- what a refusal says of the key and the partitions: nothing where memory ran out
 abbrev pub view_refusal : SplitRefusal → Option SplitRefusal
 view_refusal (refusals.AtEdge part) = Some (refusals.AtEdge part)
 view_refusal refusals.TooManyParts = Some refusals.TooManyParts

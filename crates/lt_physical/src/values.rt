@@ -24,7 +24,7 @@ pub struct Placed<'a> {
 }
 
 /// The value that a row's cells give a column; none exactly where it is unset or absent. The cells are to be lawful under the layout, as
-/// those that `flatten` makes: a text's bytes that are no UTF-8 are answered as want of memory.
+/// those that `flatten` makes: a text's bytes that are no UTF-8 are answered as out of memory.
 pub fn unflatten(
     alloc: Global,
     layout: &Layout,

@@ -1,10 +1,9 @@
 -- What calls leave of a feed, one after another, and what two told contents say together.
-use Rattle.std.proofs.Common.{◌≡◌, ℕ, true, false, refl, arith}
+use Rattle.std.proofs.Common.{◌≡◌, true, false, refl, arith}
 use Rattle.std.specs.Prelude.{IfSome, None, Option, Result, Some}
 use Rattle.lt_model.specs.Fair.{Feed, Grows}
-use Rattle.lt_model.specs.Outside.{FeedCalled, FeedGrows, StaysTold}
+use Rattle.lt_model.specs.Outside.{FeedCalled, FeedGoes, FeedGrows, FeedState, StaysTold}
 use Rattle.lt_laws.proofs.FrontLaws.{grows_itself, grows_then}
-use Rattle.lt_pump.specs.Feeds.{FeedCounts, FeedGoes}
 
 -- what two contents say together, one of which grew to the other
 pub told_step : (P Q R : Feed → Type 0) (o p : Option Feed) → StaysTold o p → FeedGrows o p → IfSome o P → IfSome p Q → ((f g : Feed) → Grows f g → P f → Q g → R g) → IfSome p R
@@ -34,16 +33,17 @@ told_grows_then (Some f) None q s h k = absurd (let e : false ≡ true = s.0 ref
 told_grows_then (Some f) (Some g) None s h k = tt
 told_grows_then (Some f) (Some g) (Some e) s h k = grows_then f g e h k
 
-pub goes_itself : (told : Option Feed) (known : ℕ) (counts : FeedCounts) → FeedGoes told told known known counts counts
-goes_itself told known counts = record { grows = told_grows_itself told; stays = (λ h. h, λ h. h); more = omega arith; later = (omega arith, omega arith) }
+pub goes_itself : (f : FeedState) → FeedGoes f f
+goes_itself f = record { stays = (λ h. h, λ h. h); grows = told_grows_itself f.told; more = omega arith; faults = omega arith; calls = omega arith }
 
-pub goes_then : (o p q : Option Feed) (a b c : ℕ) (x y z : FeedCounts) → FeedGoes o p a b x y → FeedGoes p q b c y z → FeedGoes o q a c x z
-goes_then o p q a b c x y z h k = record {
-  grows = told_grows_then o p q h.stays h.grows k.grows;
+pub goes_then : (a b c : FeedState) → FeedGoes a b → FeedGoes b c → FeedGoes a c
+goes_then a b c h k = record {
   stays = (λ s. k.stays.0 (h.stays.0 s), λ s. h.stays.1 (k.stays.1 s));
+  grows = told_grows_then a.told b.told c.told h.stays h.grows k.grows;
   more = omega (arith, h.more, k.more);
-  later = (omega (arith, h.later.0, k.later.0), omega (arith, h.later.1, k.later.1));
+  faults = omega (arith, h.faults, k.faults);
+  calls = omega (arith, h.calls, k.calls);
 }
 
-pub goes_called : {T E : Type 0} (told told' : Option Feed) (known known' faults faults' calls calls' : ℕ) (r : Result T E) → FeedCalled told told' known known' faults faults' calls calls' r → FeedGoes told told' known known' (faults, calls) (faults', calls')
-goes_called told told' known known' faults faults' calls calls' r h = record { grows = h.grows; stays = h.stays; more = h.more; later = (h.cause.later, h.no_fewer) }
+pub goes_called : {T E : Type 0} (a b : FeedState) (r : Result T E) → FeedCalled a b r → FeedGoes a b
+goes_called a b r h = h.goes

@@ -57,16 +57,5 @@ shape_holds cat c e =
 left : (a b : Bool) → IsTrue (a && b) → IsTrue a
 left a b h = (and_parts a b h).0
 
-right : (a b : Bool) → IsTrue (a && b) → IsTrue b
-right a b h = (and_parts a b h).1
-
-change_fits : (c : Change) → IsTrue (is_change c) → IsTrue (is_timestamp c.ts) × IsTrue (nat_le (length (change_key c)) max_key)
-change_fits c l = (
-  left _ _ (left _ _ (left _ _ (left _ _ (left _ _ (left _ _ (left _ _ (left _ _ (left _ _ (left _ _ l))))))))),
-  right _ (nat_le (length (change_key c)) max_key) (left _ _ (left _ _ (left _ _ l))),
-)
-
 pub deliverable : (cat : Catalogue) (c : Change) → IsTrue (is_item format.One (change_item c)) → shape_fault cat c ≡ None → IsTrue (is_deliverable cat c)
-deliverable cat c l e =
-    let fits = change_fits c (left (is_change c) _ l) in
-    and_from (is_timestamp c.ts && nat_le (length (change_key c)) max_key) _ (and_from (is_timestamp c.ts) (nat_le (length (change_key c)) max_key) fits.0 fits.1) (shape_holds cat c e)
+deliverable cat c l e = and_from (is_change c) _ (left (is_change c) _ l) (shape_holds cat c e)

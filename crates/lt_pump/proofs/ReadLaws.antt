@@ -1,10 +1,11 @@
 -- Bytes that were read ahead, and what is found at their front.
-use Rattle.std.proofs.Common.{◌≡◌, ℕ, ◌+◌, ◌-◌, ◌≤◌, true, false, Bool, List, [], ◌∷◌, ◌++◌, length, take, drop, refl, sym, ap, ◌∙◌, subst, arith, append_assoc, append-nil}
+use Rattle.std.proofs.Common.{◌≡◌, ℕ, ◌+◌, ◌-◌, ◌≤◌, true, false, Bool, List, [], ◌∷◌, ◌++◌, length, take, drop, refl, sym, ap, ◌∙◌, subst, arith, append_assoc, append-nil, suc, zero}
 use Rattle.std.specs.Prelude.{None, Option, Some, IfSome, ◌↔◌}
 use Rattle.std.proofs.lemmas.List.{drop-append-le, drop-drop, drop_at, length-append, length-drop, take-append-drop}
 use Rattle.lt_model.specs.declared.Format.TheVariants as format
 use Rattle.lt_model.specs.Fair.{Feed, Grows, stream_bytes}
-use Rattle.lt_model.specs.Log.{Found, IsFound, malformed, partial, whole}
+use Rattle.lt_model.specs.Log.{Found, IsFound, malformed, partial, spelled, u32, whole}
+use Rattle.lt_model.specs.declared.BadFrame.TheVariants as bad
 use Rattle.lt_model.specs.Outside.{FeedGrows, FeedReads, StaysTold}
 use Rattle.lt_codecs.proofs.FoundLaws.{stays_found}
 use Rattle.lt_laws.proofs.FrontLaws.{bytes_grow}
@@ -65,6 +66,19 @@ view_partial : (x : records.Found) → view_found x ≡ partial → x ≡ found.
 view_partial (found.Whole i n) e = absurd cc
 view_partial found.Partial e = refl
 view_partial (found.Malformed b) e = absurd cc
+
+-- in no bytes nothing is found whole, and nothing malformed
+none_found : (x : Found) → (x ≡ partial → ⊥) → IsFound format.One [] x → ⊥
+unfolding spelled
+none_found partial last h = last refl
+none_found (whole i zero) last h = let e : [] ≡ spelled i = h.1.spells in absurd cc
+none_found (whole i (suc n)) last h = absurd (omega (arith, h.0))
+none_found (malformed (bad.Kind k)) last h = absurd (let e : [] ≡ k ∷ h.0 = h.1 in cc)
+none_found (malformed (bad.Length l)) last h = absurd (let e : [] ≡ h.0 ∷ (u32 l ++ h.1) = h.5 in cc)
+none_found (malformed bad.Body) last h = absurd (let e : [] ≡ h.0 ∷ (u32 h.1 ++ h.2) = h.3.spells in cc)
+
+pub found_in_none : (x : records.Found) → (x ≡ found.Partial → ⊥) → IsFound format.One [] (view_found x) → ⊥
+found_in_none x last h = none_found (view_found x) (λ p. last (view_partial x p)) h
 
 pub found_there : (told : Option Feed) (s at : ℕ) (left bytes : List ℕ) (x : records.Found) → (x ≡ found.Partial → ⊥) → bytes ≡ left → IsFound format.One bytes (view_found x) → StandAhead told s at left → IfSome told (λ f. FoundAhead f s at left (view_found x))
 found_there told s at left bytes x last e h a = told_map (λ f. IsAhead f s at left) (λ f. FoundAhead f s at left (view_found x)) told a

@@ -1,5 +1,4 @@
 pub mod View
-pub mod Feeds
 pub mod Reads
 pub mod Given
 pub mod Positions

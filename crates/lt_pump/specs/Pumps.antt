@@ -37,7 +37,7 @@ abbrev pub refusal_of : Fault → AttachRefusal
 refusal_of faults.Feed = refusals.Feed
 refusal_of faults.Memory = refusals.Memory
 
--- why no pump is made, by the feed's count of faults before and after; want of memory is free
+-- why no pump is made, by the feed's count of faults before and after; out of memory is always allowed
 abbrev pub AttachRefused : Option Feed → Option (List (List ℕ)) → ℕ → ℕ → AttachRefusal → Type 0
 AttachRefused told kept before now (refusals.Mismatch n) = (now ≡ before) × IfSome told (λ f. IsMismatch f kept n)
 AttachRefused told kept before now refusals.Feed = Rose before now

@@ -8,7 +8,7 @@ ghost use Rattle.std.specs.Option.{option_copied};
 ghost use Rattle.lt_model.specs.Disk.{Rose};
 ghost use Rattle.lt_model.specs.Fair.{Feed as Streams};
 ghost use Rattle.lt_model.specs.Run.{IsKeptLow, count_mismatch};
-ghost use Rattle.lt_pump.specs.Feeds.{FeedGoes};
+ghost use Rattle.lt_model.specs.Outside.{FeedGoes};
 ghost use Rattle.lt_pump.specs.Headers.{Begins, Fits, IsFramed};
 ghost use Rattle.lt_pump.specs.Pumps.{AttachRefused, HasAttached, refusal_of, streams_of};
 ghost use Rattle.lt_pump.specs.declared.refusal.AttachRefusal.TheVariants as refusals;
@@ -78,11 +78,12 @@ impl Pump {
         feed: &mut F,
         kept: Option<&Lows>,
     ) -> Result<Pump, AttachRefusal>
-        ensures attached { IfOk result (λ pump. HasAttached (F.told feed.new) (option_copied kept.entry) (streams_of pump)) }
-        ensures known { IfOk result (λ pump. length (streams_of pump) ≤ F.known feed.new) }
-        ensures refused { IfErr result (AttachRefused (F.told feed.new) (option_copied kept.entry) (F.faults feed.old) (F.faults feed.new)) }
-        ensures faults { OnOk result (F.faults feed.new ≡ F.faults feed.old) }
-        ensures feed { FeedGoes (F.told feed.old) (F.told feed.new) (F.known feed.old) (F.known feed.new) (F.faults feed.old, F.calls feed.old) (F.faults feed.new, F.calls feed.new) }
+        ensures attached { IfOk result (λ pump. HasAttached (F.state feed.new).told (option_copied kept.entry) (streams_of pump)) }
+        ensures known { IfOk result (λ pump. length (streams_of pump) ≤ (F.state feed.new).known) }
+        ensures refused { IfErr result (AttachRefused (F.state feed.new).told (option_copied kept.entry) (F.state feed.old).faults (F.state feed.new).faults) }
+        ensures faults { OnOk result ((F.state feed.new).faults ≡ (F.state feed.old).faults) }
+        ensures called { OnOk result (Rose (F.state feed.old).calls (F.state feed.new).calls) }
+        ensures feed { FeedGoes (F.state feed.old) (F.state feed.new) }
     {
         let count = feed.streams()?;
         if let Some(stream) = unfit_number(count, kept) {
@@ -129,13 +130,13 @@ fn header_of<F: Feed>(
     stream: u32,
     feed: &mut F,
 ) -> Result<Option<(StreamHeader, usize)>, Fault>
-    requires { stream < F.known feed.old }
-    ensures begins { IfOk result (λ o. IfSome (F.told feed.new) (λ f. Begins f stream o)) }
+    requires { stream < (F.state feed.old).known }
+    ensures begins { IfOk result (λ o. IfSome (F.state feed.new).told (λ f. Begins f stream o)) }
     ensures frame { IfOk result (λ o. IfSome o (λ x. IsFramed x)) }
-    ensures fault { IsErrOf result Fault.Feed → Rose (F.faults feed.old) (F.faults feed.new) }
-    ensures kept { OnOk result (F.faults feed.new ≡ F.faults feed.old) }
-    ensures lacks { IsErrOf result Fault.Memory → F.faults feed.new ≡ F.faults feed.old }
-    ensures feed { FeedGoes (F.told feed.old) (F.told feed.new) (F.known feed.old) (F.known feed.new) (F.faults feed.old, F.calls feed.old) (F.faults feed.new, F.calls feed.new) }
+    ensures fault { IsErrOf result Fault.Feed → Rose (F.state feed.old).faults (F.state feed.new).faults }
+    ensures kept { OnOk result ((F.state feed.new).faults ≡ (F.state feed.old).faults) }
+    ensures lacks { IsErrOf result Fault.Memory → (F.state feed.new).faults ≡ (F.state feed.old).faults }
+    ensures feed { FeedGoes (F.state feed.old) (F.state feed.new) }
 {
     let mut ahead = Ahead::new(alloc);
     match find(stream, 0, &mut ahead, feed)? {

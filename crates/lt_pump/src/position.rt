@@ -15,7 +15,7 @@ ghost use Rattle.lt_model.specs.Outside.{holds_change, is_deliverable, put_chang
 ghost use Rattle.lt_model.specs.Schema.{change_at};
 ghost use Rattle.lt_records.specs.View.{view_change, view_header, view_item};
 ghost use Rattle.lt_fair.specs.View.{view_point, view_unfair};
-ghost use Rattle.lt_pump.specs.Feeds.{FeedGoes};
+ghost use Rattle.lt_model.specs.Outside.{FeedGoes};
 ghost use Rattle.lt_pump.specs.Given.{AreBehind, AreSubscriptions, all_given};
 ghost use Rattle.lt_pump.specs.Positions.{IsOther, Keeps, Ran, RanSome, Steps, breaks_there, stream_of, with_item};
 ghost use Rattle.lt_pump.specs.Reads.{StandAhead, left_of};
@@ -93,20 +93,21 @@ impl Position {
         to: &mut V,
     ) -> Result<(u64, Stop), Fault>
         requires stream { stream ≡ (stream_of self.old).header.stream }
-        requires known { stream < F.known feed.old }
+        requires known { stream < (F.state feed.old).known }
         requires subs { AreSubscriptions (map view_subscription subs.now) (V.held to.old) }
         requires catalogue { cat.now ≡ V.catalogue to.old }
         requires behind { AreBehind (stream_of self.old) (V.held to.old) }
-        ensures ran { IfOk result (λ r. Ran (F.told feed.new) cat.now (map view_subscription subs.now) (stream_of self.old) (stream_of self.new) (V.held to.old) (V.held to.new) n r.0 (view_stop r.1)) }
-        ensures some { OnErr result (RanSome (F.told feed.new) cat.now (map view_subscription subs.now) (stream_of self.old) (stream_of self.new) (V.held to.old) (V.held to.new) n) }
+        ensures ran { IfOk result (λ r. Ran (F.state feed.new).told cat.now (map view_subscription subs.now) (stream_of self.old) (stream_of self.new) (V.held to.old) (V.held to.new) n r.0 (view_stop r.1)) }
+        ensures some { OnErr result (RanSome (F.state feed.new).told cat.now (map view_subscription subs.now) (stream_of self.old) (stream_of self.new) (V.held to.old) (V.held to.new) n) }
         ensures behind { AreBehind (stream_of self.new) (V.held to.new) }
         ensures lists { length (V.held to.new) ≡ length (V.held to.old) }
         ensures catalogue { V.catalogue to.new ≡ V.catalogue to.old }
         ensures header { (stream_of self.new).header ≡ (stream_of self.old).header }
-        ensures fault { IsErrOf result Fault.Feed → Rose (F.faults feed.old) (F.faults feed.new) }
-        ensures kept { OnOk result (F.faults feed.new ≡ F.faults feed.old) }
-        ensures lacks { IsErrOf result Fault.Memory → F.faults feed.new ≡ F.faults feed.old }
-        ensures feed { FeedGoes (F.told feed.old) (F.told feed.new) (F.known feed.old) (F.known feed.new) (F.faults feed.old, F.calls feed.old) (F.faults feed.new, F.calls feed.new) }
+        ensures fault { IsErrOf result Fault.Feed → Rose (F.state feed.old).faults (F.state feed.new).faults }
+        ensures kept { OnOk result ((F.state feed.new).faults ≡ (F.state feed.old).faults) }
+        ensures lacks { IsErrOf result Fault.Memory → (F.state feed.new).faults ≡ (F.state feed.old).faults }
+        ensures called { OnOk result (0 < n → Rose (F.state feed.old).calls (F.state feed.new).calls) }
+        ensures feed { FeedGoes (F.state feed.old) (F.state feed.new) }
     {
         if n == 0 {
             return Ok((0, Stop::Count));
@@ -132,22 +133,23 @@ impl Position {
         to: &mut V,
     ) -> Result<Option<Stop>, Fault>
         requires stream { stream ≡ (stream_of self.old).header.stream }
-        requires known { stream < F.known feed.old }
+        requires known { stream < (F.state feed.old).known }
         requires subs { AreSubscriptions (map view_subscription subs.now) (V.held to.old) }
         requires catalogue { cat.now ≡ V.catalogue to.old }
         requires behind { AreBehind (stream_of self.old) (V.held to.old) }
         requires place { length (left_of ahead.old) ≤ 2 ^ 63 - self.old.offset }
-        requires ahead { StandAhead (F.told feed.old) stream self.old.offset (left_of ahead.old) }
+        requires ahead { StandAhead (F.state feed.old).told stream self.old.offset (left_of ahead.old) }
         ensures place { OnOk result (length (left_of ahead.new) ≤ 2 ^ 63 - self.new.offset) }
-        ensures step { IfOk result (Steps (F.told feed.new) cat.now (map view_subscription subs.now) (stream_of self.old) (stream_of self.new) (V.held to.old) (V.held to.new) (left_of ahead.new)) }
+        ensures step { IfOk result (Steps (F.state feed.new).told cat.now (map view_subscription subs.now) (stream_of self.old) (stream_of self.new) (V.held to.old) (V.held to.new) (left_of ahead.new)) }
         ensures unmoved { OnErr result ((stream_of self.new ≡ stream_of self.old) × (V.held to.new ≡ V.held to.old)) }
         ensures behind { AreBehind (stream_of self.new) (V.held to.new) }
         ensures lists { length (V.held to.new) ≡ length (V.held to.old) }
         ensures catalogue { V.catalogue to.new ≡ V.catalogue to.old }
-        ensures fault { IsErrOf result Fault.Feed → Rose (F.faults feed.old) (F.faults feed.new) }
-        ensures kept { OnOk result (F.faults feed.new ≡ F.faults feed.old) }
-        ensures lacks { IsErrOf result Fault.Memory → F.faults feed.new ≡ F.faults feed.old }
-        ensures feed { FeedGoes (F.told feed.old) (F.told feed.new) (F.known feed.old) (F.known feed.new) (F.faults feed.old, F.calls feed.old) (F.faults feed.new, F.calls feed.new) }
+        ensures fault { IsErrOf result Fault.Feed → Rose (F.state feed.old).faults (F.state feed.new).faults }
+        ensures kept { OnOk result ((F.state feed.new).faults ≡ (F.state feed.old).faults) }
+        ensures lacks { IsErrOf result Fault.Memory → (F.state feed.new).faults ≡ (F.state feed.old).faults }
+        ensures called { OnOk result (left_of ahead.old ≡ [] → Rose (F.state feed.old).calls (F.state feed.new).calls) }
+        ensures feed { FeedGoes (F.state feed.old) (F.state feed.new) }
     {
         match find(stream, self.offset, ahead, feed)? {
             Found::Partial => {

@@ -34,7 +34,7 @@ impl Pump {
     ghost use Rattle.lt_pump.specs.Positions.{started};
     ghost use Rattle.lt_model.specs.Disk.{Rose};
     ghost use Rattle.lt_fair.specs.View.{view_point};
-    ghost use Rattle.lt_pump.specs.Feeds.{FeedGoes};
+    ghost use Rattle.lt_model.specs.Outside.{FeedGoes};
     ghost use Rattle.lt_pump.specs.Given.{AreAllBehind, AreBehind, AreSubscriptions};
     ghost use Rattle.lt_pump.specs.Pumps.{HasPumped, HasPumpedSome, OthersStay, streams_of};
     ghost use Rattle.lt_pump.specs.View.{view_subscription};
@@ -63,14 +63,14 @@ impl Pump {
         subs: &Subscriptions,
         to: &mut V,
     ) -> Result<Pumped, PumpFault>
-        requires known { length (streams_of self.old) ≤ F.known feed.old }
+        requires known { length (streams_of self.old) ≤ (F.state feed.old).known }
         requires subs { AreSubscriptions (map view_subscription subs.now) (V.held to.old) }
         requires catalogue { cat.now ≡ V.catalogue to.old }
         requires behind { IfSome (slice_get (streams_of self.old) stream) (λ a. AreBehind a (V.held to.old)) }
-        ensures pumped { IfOk result (HasPumped (F.told feed.new) cat.now stream n (map view_subscription subs.now) (streams_of self.old) (streams_of self.new) (V.held to.old) (V.held to.new)) }
+        ensures pumped { IfOk result (HasPumped (F.state feed.new).told cat.now stream n (map view_subscription subs.now) (streams_of self.old) (streams_of self.new) (V.held to.old) (V.held to.new)) }
 
         // After a fault the stream stands behind the last record taken.
-        ensures some { stream < length (streams_of self.old) → OnErr result (HasPumpedSome (F.told feed.new) cat.now stream n (map view_subscription subs.now) (streams_of self.old) (streams_of self.new) (V.held to.old) (V.held to.new)) }
+        ensures some { stream < length (streams_of self.old) → OnErr result (HasPumpedSome (F.state feed.new).told cat.now stream n (map view_subscription subs.now) (streams_of self.old) (streams_of self.new) (V.held to.old) (V.held to.new)) }
 
         // What the next call needs, of this stream or of another.
         ensures behind { IfSome (slice_get (streams_of self.new) stream) (λ a. AreBehind a (V.held to.new)) }
@@ -85,10 +85,11 @@ impl Pump {
         ensures untouched { length (streams_of self.old) ≤ stream → (streams_of self.new ≡ streams_of self.old) × (feed.new ≡ feed.old) × (to.new ≡ to.old) }
 
         // The feed, and the cause of its fault.
-        ensures fault { IsErrOf result PumpFault.Feed → Rose (F.faults feed.old) (F.faults feed.new) }
-        ensures kept { OnOk result (F.faults feed.new ≡ F.faults feed.old) }
-        ensures lacks { IsErrOf result PumpFault.Memory → F.faults feed.new ≡ F.faults feed.old }
-        ensures feed { FeedGoes (F.told feed.old) (F.told feed.new) (F.known feed.old) (F.known feed.new) (F.faults feed.old, F.calls feed.old) (F.faults feed.new, F.calls feed.new) }
+        ensures fault { IsErrOf result PumpFault.Feed → Rose (F.state feed.old).faults (F.state feed.new).faults }
+        ensures kept { OnOk result ((F.state feed.new).faults ≡ (F.state feed.old).faults) }
+        ensures lacks { IsErrOf result PumpFault.Memory → (F.state feed.new).faults ≡ (F.state feed.old).faults }
+        ensures called { OnOk result (0 < n → Rose (F.state feed.old).calls (F.state feed.new).calls) }
+        ensures feed { FeedGoes (F.state feed.old) (F.state feed.new) }
     {
         let Some(position) = self.positions.get_mut(stream as usize) else {
             return Err(PumpFault::NoStream);

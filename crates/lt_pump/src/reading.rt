@@ -3,12 +3,12 @@
 //! A piece is zeroed before it is read, so each read takes the time of 64 KiB, also where the feed gives less, and each pump of
 //! one record or more reads at least once. A look at the front that finds too few bytes takes constant time, so the rest takes time by the bytes.
 
-ghost use Rattle.std.specs.Prelude.{◌≡◌, ◌+◌, ◌-◌, ◌<◌, ◌≤◌, ◌^◌, length, false, true, IfOk, IfSome, OnOk, IsErrOf};
+ghost use Rattle.std.specs.Prelude.{◌≡◌, ◌+◌, ◌-◌, ◌<◌, ◌≤◌, ◌^◌, [], length, false, true, IfOk, IfSome, OnOk, IsErrOf};
 ghost use Rattle.lt_model.specs.Disk.{Rose};
 ghost use Rattle.lt_model.specs.Outside.{FeedReads};
 ghost use Rattle.lt_records.specs.Reading.{NothingElse};
 ghost use Rattle.lt_records.specs.View.{view_found};
-ghost use Rattle.lt_pump.specs.Feeds.{FeedGoes};
+ghost use Rattle.lt_model.specs.Outside.{FeedGoes};
 ghost use Rattle.lt_pump.specs.Reads.{FoundAhead, IsWhole, More, StandAhead, left_of};
 ghost use Rattle.lt_pump.specs.declared.reading.Fault.TheVariants as faults;
 
@@ -59,17 +59,18 @@ pub fn find<F: Feed>(
     ahead: &mut Ahead,
     feed: &mut F,
 ) -> Result<Found, Fault>
-    requires known { stream < F.known feed.old }
+    requires known { stream < (F.state feed.old).known }
     requires place { length (left_of ahead.old) ≤ 2 ^ 63 - offset }
-    requires ahead { StandAhead (F.told feed.old) stream offset (left_of ahead.old) }
+    requires ahead { StandAhead (F.state feed.old).told stream offset (left_of ahead.old) }
     ensures place { OnOk result (length (left_of ahead.new) ≤ 2 ^ 63 - offset) }
-    ensures found { IfOk result (λ found. IfSome (F.told feed.new) (λ f. FoundAhead f stream offset (left_of ahead.new) (view_found found))) }
+    ensures found { IfOk result (λ found. IfSome (F.state feed.new).told (λ f. FoundAhead f stream offset (left_of ahead.new) (view_found found))) }
     ensures whole { IfOk result (λ found. IsWhole (view_found found) (left_of ahead.new)) }
     ensures only { IfOk result (λ found. NothingElse (left_of ahead.new) (view_found found)) }
-    ensures fault { IsErrOf result Fault.Feed → Rose (F.faults feed.old) (F.faults feed.new) }
-    ensures kept { OnOk result (F.faults feed.new ≡ F.faults feed.old) }
-    ensures lacks { IsErrOf result Fault.Memory → F.faults feed.new ≡ F.faults feed.old }
-    ensures feed { FeedGoes (F.told feed.old) (F.told feed.new) (F.known feed.old) (F.known feed.new) (F.faults feed.old, F.calls feed.old) (F.faults feed.new, F.calls feed.new) }
+    ensures fault { IsErrOf result Fault.Feed → Rose (F.state feed.old).faults (F.state feed.new).faults }
+    ensures kept { OnOk result ((F.state feed.new).faults ≡ (F.state feed.old).faults) }
+    ensures lacks { IsErrOf result Fault.Memory → (F.state feed.new).faults ≡ (F.state feed.old).faults }
+    ensures called { OnOk result (left_of ahead.old ≡ [] → Rose (F.state feed.old).calls (F.state feed.new).calls) }
+    ensures feed { FeedGoes (F.state feed.old) (F.state feed.new) }
 {
     loop {
         match next(ahead.allocator(), ahead.left())? {
@@ -85,17 +86,18 @@ pub fn find<F: Feed>(
 
 /// Reads a piece more; false where the stream has none.
 fn more<F: Feed>(stream: u32, offset: u64, ahead: &mut Ahead, feed: &mut F) -> Result<bool, Fault>
-    requires known { stream < F.known feed.old }
+    requires known { stream < (F.state feed.old).known }
     requires place { length (left_of ahead.old) ≤ 2 ^ 63 - offset }
-    requires ahead { StandAhead (F.told feed.old) stream offset (left_of ahead.old) }
+    requires ahead { StandAhead (F.state feed.old).told stream offset (left_of ahead.old) }
     ensures place { OnOk result (length (left_of ahead.new) ≤ 2 ^ 63 - offset) }
-    ensures more { IfOk result (λ some. IfSome (F.told feed.new) (λ f. More some f stream offset (left_of ahead.old) (left_of ahead.new))) }
+    ensures more { IfOk result (λ some. IfSome (F.state feed.new).told (λ f. More some f stream offset (left_of ahead.old) (left_of ahead.new))) }
     ensures same { IfOk result (λ some. some ≡ false → left_of ahead.new ≡ left_of ahead.old) }
     ensures longer { IfOk result (λ some. some ≡ true → length (left_of ahead.old) < length (left_of ahead.new)) }
-    ensures fault { IsErrOf result Fault.Feed → Rose (F.faults feed.old) (F.faults feed.new) }
-    ensures kept { OnOk result (F.faults feed.new ≡ F.faults feed.old) }
-    ensures lacks { IsErrOf result Fault.Memory → F.faults feed.new ≡ F.faults feed.old }
-    ensures feed { FeedGoes (F.told feed.old) (F.told feed.new) (F.known feed.old) (F.known feed.new) (F.faults feed.old, F.calls feed.old) (F.faults feed.new, F.calls feed.new) }
+    ensures fault { IsErrOf result Fault.Feed → Rose (F.state feed.old).faults (F.state feed.new).faults }
+    ensures kept { OnOk result ((F.state feed.new).faults ≡ (F.state feed.old).faults) }
+    ensures lacks { IsErrOf result Fault.Memory → (F.state feed.new).faults ≡ (F.state feed.old).faults }
+    ensures called { OnOk result (Rose (F.state feed.old).calls (F.state feed.new).calls) }
+    ensures feed { FeedGoes (F.state feed.old) (F.state feed.new) }
 {
     let mut piece = new_piece(ahead.allocator())?;
     let buffer = piece.as_mut_slice();
@@ -125,15 +127,16 @@ fn read_behind<F: Feed>(
     feed: &mut F,
     piece: &mut [u8],
 ) -> Result<usize, Fault>
-    requires known { stream < F.known feed.old }
+    requires known { stream < (F.state feed.old).known }
     requires place { length (left_of ahead.now) ≤ 2 ^ 63 - offset }
     requires room { 0 < length piece.old }
     ensures bound { IfOk result (λ n. (n ≤ length piece.new) × (length (left_of ahead.now) + n ≤ 2 ^ 63 - offset)) }
-    ensures bytes { IfOk result (λ n. FeedReads (F.told feed.new) stream (offset + length (left_of ahead.now)) piece.new n) }
-    ensures fault { IsErrOf result Fault.Feed → Rose (F.faults feed.old) (F.faults feed.new) }
-    ensures kept { OnOk result (F.faults feed.new ≡ F.faults feed.old) }
-    ensures lacks { IsErrOf result Fault.Memory → F.faults feed.new ≡ F.faults feed.old }
-    ensures feed { FeedGoes (F.told feed.old) (F.told feed.new) (F.known feed.old) (F.known feed.new) (F.faults feed.old, F.calls feed.old) (F.faults feed.new, F.calls feed.new) }
+    ensures bytes { IfOk result (λ n. FeedReads (F.state feed.new).told stream (offset + length (left_of ahead.now)) piece.new n) }
+    ensures fault { IsErrOf result Fault.Feed → Rose (F.state feed.old).faults (F.state feed.new).faults }
+    ensures kept { OnOk result ((F.state feed.new).faults ≡ (F.state feed.old).faults) }
+    ensures lacks { IsErrOf result Fault.Memory → (F.state feed.new).faults ≡ (F.state feed.old).faults }
+    ensures called { Rose (F.state feed.old).calls (F.state feed.new).calls }
+    ensures feed { FeedGoes (F.state feed.old) (F.state feed.new) }
 {
     let at = offset + ahead.left().len() as u64;
     Ok(feed.read_at(stream, at, piece)?)

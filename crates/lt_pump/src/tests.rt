@@ -205,11 +205,11 @@ fn pump_through<F: Feed, V: Deliver>(
     subs: &Subscriptions,
     to: &mut V,
 ) -> Result<(u64, Option<Pumped>), PumpFault>
-    requires known { length (streams_of pump.old) ≤ F.known feed.old }
+    requires known { length (streams_of pump.old) ≤ (F.state feed.old).known }
     requires subs { AreSubscriptions (map view_subscription subs.now) (V.held to.old) }
     requires catalogue { cat.now ≡ V.catalogue to.old }
     requires behind { AreAllBehind (streams_of pump.old) (V.held to.old) }
-    ensures known { length (streams_of pump.new) ≤ F.known feed.new }
+    ensures known { length (streams_of pump.new) ≤ (F.state feed.new).known }
     ensures lists { length (V.held to.new) ≡ length (V.held to.old) }
     ensures catalogue { V.catalogue to.new ≡ V.catalogue to.old }
     ensures behind { AreAllBehind (streams_of pump.new) (V.held to.new) }
@@ -235,7 +235,7 @@ fn pump_both<F: Feed, V: Deliver>(
     subs: &Subscriptions,
     to: &mut V,
 ) -> Result<(Pumped, Pumped), PumpFault>
-    requires known { length (streams_of pump.old) ≤ F.known feed.old }
+    requires known { length (streams_of pump.old) ≤ (F.state feed.old).known }
     requires subs { AreSubscriptions (map view_subscription subs.now) (V.held to.old) }
     requires catalogue { cat.now ≡ V.catalogue to.old }
     requires behind { AreAllBehind (streams_of pump.old) (V.held to.old) }

@@ -30,7 +30,7 @@ abbrev pub refusal_of : Stop → ValueRefusal
 refusal_of stops.Unlike = refusals.NotAValue
 refusal_of stops.Memory = refusals.Memory
 
--- no value stands at the front; want of memory is free
+-- no value stands at the front; out of memory is always allowed
 abbrev pub ValueRefused : List ℕ → ValueRefusal → Type 0
 ValueRefused bytes refusals.NotAValue = HasNoValue bytes
 ValueRefused bytes refusals.Memory = Unit {0}

@@ -26,7 +26,7 @@ pub record AreParts (parts : List KeyPart) : Type 0 where
   pub few : length parts < 2 ^ 8
   pub spelled : All (λ p. IsTrue (is_log_part (view_part p))) parts
 
--- the body is too long, and its length is kept; want of memory is free
+-- the body is too long, and its length is kept; out of memory is always allowed
 abbrev pub WriteRefused : Item → WriteRefusal → Type 0
 WriteRefused i (refusals.TooLong len) = (max_body format.One < length (body i)) × (len ≡ length (body i))
 WriteRefused i refusals.Memory = Unit {0}

@@ -1,3 +1,4 @@
+pub mod DeltaLines
 pub mod RowKinds
 pub mod Shown
 pub mod StatusLines

@@ -1,9 +1,11 @@
 -- The lines of a status, put together from their parts.
-use Rattle.std.proofs.Common.{List, None, [], ap, ap₂, append_assoc, drop, length, refl, slice_index_or, sym, ℕ, ◌+◌, ◌++◌, ◌<◌, ◌∙◌, ◌∷◌, ◌≡◌}
+use Rattle.std.proofs.Common.{List, None, Option, Some, [], ap, ap₂, append_assoc, drop, length, refl, slice_index_or, sym, ℕ, ◌+◌, ◌++◌, ◌<◌, ◌∙◌, ◌∷◌, ◌≡◌}
 use Rattle.std.proofs.lemmas.List.{drop_more}
 use Rattle.std.specs.Prelude.{codes, decimal, flat_map}
 use Rattle.lt_model.specs.Reply as model
-use Rattle.lt_model.specs.Reply.{ended, part_line, part_lines, reply_text, status_told, stream_line}
+use Rattle.lt_model.specs.declared.Progress.{Progress}
+use Rattle.lt_model.specs.declared.Progress.TheVariants as progress
+use Rattle.lt_model.specs.Reply.{ended, job_text, part_line, part_lines, reply_text, status_told, stream_line, text_line}
 use Rattle.lt_reply.specs.View.{view_part, view_parts}
 use Rattle.lt_reply.specs.declared.reply.PartLine.{PartLine}
 
@@ -27,9 +29,17 @@ regrouped d p s t e j k same =
     ∙ sym (append_assoc (((d ++ (10 ∷ [])) ++ p) ++ s) j k ∙ append_assoc ((d ++ (10 ∷ [])) ++ p) s (j ++ k)
     ∙ append_assoc (d ++ (10 ∷ [])) p (s ++ (j ++ k)) ∙ append_assoc d (10 ∷ []) (p ++ (s ++ (j ++ k))))
 
-pub status_lines : (m : ℕ) (ps : List model.PartLine) (ss : List model.StreamLine) (parts streams words : List ℕ) → parts ≡ part_lines 0 ps → streams ≡ flat_map stream_line ss
-    → words ≡ codes "minimum " ++ (decimal m ++ (codes "\n" ++ (parts ++ (streams ++ codes "job none\nok status")))) → ended words ≡ reply_text (status_told m ps ss None)
+job_ends : (job : Option Progress) → (codes "job " ++ (job_text job ++ codes "\nok status")) ++ (10 ∷ []) ≡ text_line (codes "job" ∷ job_text job ∷ []) ++ ended (codes "ok status")
+job_ends None = refl
+job_ends (Some progress.More) = refl
+job_ends (Some progress.Done) = refl
+
+pub status_lines : (m : ℕ) (ps : List model.PartLine) (ss : List model.StreamLine) (job : Option Progress) (parts streams word words : List ℕ)
+    → parts ≡ part_lines 0 ps → streams ≡ flat_map stream_line ss → word ≡ job_text job
+    → words ≡ codes "minimum " ++ (decimal m ++ (codes "\n" ++ (parts ++ (streams ++ (codes "job " ++ (word ++ codes "\nok status")))))) → ended words ≡ reply_text (status_told m ps ss job)
 unfolding reply_text
-status_lines m ps ss parts streams words e f g =
-    ap ended (g ∙ ap₂ (λ (x y : List ℕ). codes "minimum " ++ (decimal m ++ (codes "\n" ++ (x ++ (y ++ codes "job none\nok status"))))) e f)
-    ∙ ap (λ (u : List ℕ). codes "minimum " ++ u) (regrouped (decimal m) (part_lines 0 ps) (flat_map stream_line ss) (codes "job none\nok status") (10 ∷ []) (codes "job none\n") (codes "ok status\n") refl)
+status_lines m ps ss job parts streams word words e f h g =
+    ap ended (g ∙ ap₂ (λ (x y : List ℕ). codes "minimum " ++ (decimal m ++ (codes "\n" ++ (x ++ (y ++ (codes "job " ++ (word ++ codes "\nok status"))))))) e f
+    ∙ ap (λ (w : List ℕ). codes "minimum " ++ (decimal m ++ (codes "\n" ++ (part_lines 0 ps ++ (flat_map stream_line ss ++ (codes "job " ++ (w ++ codes "\nok status"))))))) h)
+    ∙ ap (λ (u : List ℕ). codes "minimum " ++ u)
+    (regrouped (decimal m) (part_lines 0 ps) (flat_map stream_line ss) (codes "job " ++ (job_text job ++ codes "\nok status")) (10 ∷ []) (text_line (codes "job" ∷ job_text job ∷ [])) (ended (codes "ok status")) (job_ends job))

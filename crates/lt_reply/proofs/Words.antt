@@ -1,7 +1,7 @@
--- Words that are put together from their parts.
-use Rattle.std.proofs.Common.{List, ap, refl, ℕ, ◌++◌, ◌∙◌, ◌∷◌, ◌≡◌}
-use Rattle.std.specs.Prelude.{codes, decimal}
-use Rattle.lt_model.specs.Reply.{Cause, Stop, cause_words, ended, of_text, of_version, pump_done, reply_text, spaced, stop_text}
+-- The words of a refused schema.
+use Rattle.std.proofs.Common.{refl, ◌++◌, ◌∷◌, ◌≡◌}
+use Rattle.std.specs.Prelude.{codes}
+use Rattle.lt_model.specs.Reply.{Cause, cause_words, of_text, of_version, spaced}
 use Rattle.lt_model.specs.Schema.{bad_default, bad_name, bad_number, column_reused, default_given, duplicate_name, key_changed, kind_changed, table_mismatch, too_deep, too_many, version_not_next}
 use Rattle.lt_model.specs.SchemaText.{missing, not_json, unknown_member, wrong}
 
@@ -23,9 +23,3 @@ cause_follows (of_version (column_reused c)) = refl
 cause_follows (of_version (kind_changed c)) = refl
 cause_follows (of_version (default_given c)) = refl
 cause_follows (of_version (too_many n)) = refl
-
-pub pump_line : (s n o c : ℕ) (stop : Stop) (why line : List ℕ) → why ≡ stop_text stop
-    → line ≡ codes "ok pump " ++ (decimal s ++ (codes " records " ++ (decimal n ++ (codes " offset " ++ (decimal o ++ (codes " checkpoint " ++ (decimal c ++ (codes " stop " ++ why)))))))) → ended line ≡ reply_text (pump_done s n o c stop)
-unfolding reply_text
-pump_line s n o c stop why line e f =
-    ap ended (f ∙ ap (λ w. codes "ok pump " ++ (decimal s ++ (codes " records " ++ (decimal n ++ (codes " offset " ++ (decimal o ++ (codes " checkpoint " ++ (decimal c ++ (codes " stop " ++ w))))))))) e)

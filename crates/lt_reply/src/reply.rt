@@ -3,6 +3,7 @@
 ghost use Rattle.std.specs.Prelude.{◌≡◌, IfOk};
 
 use lt_core::{KeyBytes, List, ListItem, Memory, Text, Ts};
+use lt_model::Progress;
 use lt_pump::Stop;
 
 /// What is told of a partition. Its number is its place in the list.
@@ -58,6 +59,25 @@ impl ListItem for StreamLine {
 /// Where the streams stand, by rising number.
 pub type StreamLines = List<StreamLine>;
 
+/// What is told of a delta: its bundles and versions, and the least and the greatest timestamp of a version.
+#[derive(Clone, Copy, Debug, PartialEq, Eq)]
+pub struct DeltaLine {
+    pub id: u64,
+    pub bundles: u64,
+    pub versions: u64,
+    pub least: Ts,
+    pub greatest: Ts,
+}
+
+impl ListItem for DeltaLine {
+    fn copy_item(&self) -> Result<DeltaLine, Memory> {
+        Ok(*self)
+    }
+}
+
+/// What is told of a partition's deltas, by rising id.
+pub type DeltaLines = List<DeltaLine>;
+
 /// The reply to a command that was not refused.
 #[derive(Debug, Drop)]
 pub enum Reply {
@@ -77,18 +97,53 @@ pub enum Reply {
         checkpoint: Ts,
         stop: Stop,
     },
+    /// The delta that was written; none where no change was in memory.
+    Flush {
+        part: u32,
+        resume: Ts,
+        delta: Option<u64>,
+    },
+    /// So many deltas became the one; none where nothing is left of them.
+    Compact {
+        part: u32,
+        inputs: u64,
+        delta: Option<u64>,
+    },
+    JobBegin {
+        part: u32,
+        inputs: u64,
+    },
+    JobStep(Progress),
+    /// The delta that the job made; none where it made nothing.
+    JobFinish {
+        delta: Option<u64>,
+    },
+    JobDrop,
     /// The number of the upper half.
     Split {
         upper: u32,
+    },
+    /// The minimum.
+    Retain {
+        at: Ts,
     },
     /// It comes behind so many rows.
     Scan {
         rows: u64,
     },
-    /// The least timestamp of a scan, and where all stands. No job is open.
+    /// It comes behind so many rows.
+    Page {
+        rows: u64,
+    },
+    /// The least timestamp of a scan, and where all stands; none where no job is open.
     Status {
         minimum: Ts,
         parts: PartLines,
         streams: StreamLines,
+        job: Option<Progress>,
     },
+    Deltas {
+        lines: DeltaLines,
+    },
+    Reopen,
 }

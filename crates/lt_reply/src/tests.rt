@@ -68,35 +68,109 @@ fn pumps(rt: HostRuntime) -> Result<(), Fail> {
     Ok(())
 }
 
+fn table(alloc: Global) -> Result<Text, Fail> {
+    Ok(Text::from_slice(alloc, b"gen")?)
+}
+
+/// Replies of one line, in the order of their lines.
+fn reply(alloc: Global, which: usize) -> Result<Reply, Fail> {
+    Ok(match which {
+        0 => Reply::Schema {
+            table: table(alloc)?,
+            version: 1,
+        },
+        1 => Reply::Retire {
+            table: table(alloc)?,
+            version: 20,
+        },
+        2 => Reply::Flush {
+            part: 0,
+            resume: 6,
+            delta: Some(0),
+        },
+        3 => Reply::Flush {
+            part: 2,
+            resume: 8,
+            delta: None,
+        },
+        4 => Reply::Compact {
+            part: 0,
+            inputs: 2,
+            delta: Some(3),
+        },
+        5 => Reply::Compact {
+            part: 1,
+            inputs: 1,
+            delta: None,
+        },
+        6 => Reply::JobBegin { part: 0, inputs: 1 },
+        7 => Reply::JobStep(Progress::More),
+        8 => Reply::JobStep(Progress::Done),
+        9 => Reply::JobFinish { delta: Some(2) },
+        10 => Reply::JobFinish { delta: None },
+        11 => Reply::JobDrop,
+        12 => Reply::Split { upper: 1 },
+        13 => Reply::Retain { at: 9 },
+        14 => Reply::Scan { rows: 4 },
+        15 => Reply::Page { rows: 1 },
+        _ => Reply::Reopen,
+    })
+}
+
+const REPLIES: [&str; 17] = [
+    "ok schema gen 1\n",
+    "ok retire gen 20\n",
+    "ok flush 0 resume 6 delta 0\n",
+    "ok flush 2 resume 8 delta none\n",
+    "ok compact 0 inputs 2 delta 3\n",
+    "ok compact 1 inputs 1 delta none\n",
+    "ok job begin 0 inputs 1\n",
+    "ok job step more\n",
+    "ok job step done\n",
+    "ok job finish delta 2\n",
+    "ok job finish delta none\n",
+    "ok job drop\n",
+    "ok split 1\n",
+    "ok retain 9\n",
+    "ok scan 4\n",
+    "ok page 1\n",
+    "ok reopen\n",
+];
+
 #[test]
-fn schemas(rt: HostRuntime) -> Result<(), Fail> {
+fn replies(rt: HostRuntime) -> Result<(), Fail> {
     let alloc = rt.alloc();
-    let table = Text::from_slice(alloc, b"t")?;
-    let reply = Reply::Schema { table, version: 1 };
-    assert_eq!(rt;
-        string(reply_text(alloc, &reply)?)?.as_str(),
-        "ok schema t 1\n"
-    );
+    for (which, wanted) in REPLIES.iter().enumerate() {
+        let line = string(reply_text(alloc, &reply(alloc, which)?)?)?;
+        assert_eq!(rt; line.as_str(), *wanted);
+    }
     Ok(())
 }
 
-#[test]
-fn retirements(rt: HostRuntime) -> Result<(), Fail> {
-    let alloc = rt.alloc();
-    let table = Text::from_slice(alloc, b"gen")?;
-    let reply = Reply::Retire { table, version: 20 };
-    assert_eq!(rt;
-        string(reply_text(alloc, &reply)?)?.as_str(),
-        "ok retire gen 20\n"
-    );
-    Ok(())
-}
+const DELTAS: &str = "delta 1 bundles 1 versions 1 least 5 greatest 5
+delta 3 bundles 1 versions 2 least 3 greatest 9
+ok deltas 2
+";
 
 #[test]
-fn splits(rt: HostRuntime) -> Result<(), Fail> {
-    let alloc = rt.alloc();
-    let line = string(reply_text(alloc, &Reply::Split { upper: 1 })?)?;
-    assert_eq!(rt; line.as_str(), "ok split 1\n");
+fn deltas(rt: HostRuntime) -> Result<(), Fail> {
+    let first = DeltaLine {
+        id: 1,
+        bundles: 1,
+        versions: 1,
+        least: 5,
+        greatest: 5,
+    };
+    let second = DeltaLine {
+        id: 3,
+        bundles: 1,
+        versions: 2,
+        least: 3,
+        greatest: 9,
+    };
+    let lines = List::from_slice(rt.alloc(), &[first, second])?;
+    let text = string(reply_text(rt.alloc(), &Reply::Deltas { lines })?)?;
+    assert_eq!(rt; text.as_str(), DELTAS);
     Ok(())
 }
 
@@ -127,6 +201,7 @@ fn status_of_a_fresh_store(rt: HostRuntime) -> Result<(), Fail> {
         minimum: 0,
         parts: List::from_vec(Vec::from_array(alloc, [part])?),
         streams: List::from_vec(Vec::from_array(alloc, [stream])?),
+        job: None,
     };
     assert_eq!(rt; string(reply_text(alloc, &reply)?)?.as_str(), FRESH);
     Ok(())
@@ -137,7 +212,7 @@ partition 0 low - resume 8 checkpoint 9 pending 1 deltas 2
 partition 1 low 000000018000000000000003 resume 5 checkpoint 6 pending 0 deltas 1
 stream 0 offset 243 checkpoint 5
 stream 1 offset 18446744073709551615 checkpoint 9223372036854775807
-job none
+job more
 ok status
 ";
 
@@ -177,6 +252,7 @@ fn status_of_two_partitions_and_streams(rt: HostRuntime) -> Result<(), Fail> {
         minimum: 3,
         parts: two_parts(alloc)?,
         streams: List::from_vec(Vec::from_array(alloc, [first, second])?),
+        job: Some(Progress::More),
     };
     assert_eq!(rt; string(reply_text(alloc, &reply)?)?.as_str(), TWO_OF_EACH);
     Ok(())
@@ -193,38 +269,69 @@ fn refusal(which: usize) -> Refusal
     ensures { IsSpoken result }
 {
     match which {
-        0 => Refusal::Worn,
-        1 => Refusal::UnknownVersion {
+        0 => Refusal::NeedsReopen,
+        1 => Refusal::Worn,
+        2 => Refusal::UnknownVersion {
             version: 4294967295,
         },
-        2 => Refusal::Retired { version: 2 },
-        3 => Refusal::LastVersion { version: 3 },
-        4 => Refusal::NoStream { stream: 4 },
-        5 => Refusal::KeyTooLong { len: 4097 },
-        6 => Refusal::NotSafe {
+        3 => Refusal::Retired { version: 2 },
+        4 => Refusal::LastVersion { version: 3 },
+        5 => Refusal::NoStream { stream: 4 },
+        6 => Refusal::NoPartition { part: 5 },
+        7 => Refusal::NoSuchDelta { id: 6 },
+        8 => Refusal::KeyTooLong { len: 4097 },
+        9 => Refusal::TooOld { min: 9 },
+        10 => Refusal::NotSafe {
             part: 0,
             checkpoint: 7,
         },
-        7 => Refusal::AtEdge { part: 1 },
-        8 => Refusal::TooManyParts,
-        9 => Refusal::FeedFault,
-        10 => Refusal::OutFault,
+        11 => Refusal::AboveDurable { durable: 7 },
+        12 => Refusal::BelowMin { min: 9 },
+        13 => Refusal::AtEdge { part: 1 },
+        14 => Refusal::TooManyParts,
+        15 => Refusal::TooManyDeltas,
+        16 => Refusal::JobOpen,
+        17 => Refusal::NoJob,
+        18 => Refusal::NotDone,
+        19 => Refusal::StoreFull { need: 61, room: 1 },
+        20 => Refusal::FeedFault,
+        21 => Refusal::DiskFault,
+        22 => Refusal::Damaged {
+            place: 1024,
+            length: 61,
+        },
+        23 => Refusal::OutFault,
+        24 => Refusal::FeedMismatch { stream: 64 },
         _ => Refusal::Memory,
     }
 }
 
-const REFUSALS: [&str; 12] = [
+const REFUSALS: [&str; 26] = [
+    "refused E2 NeedsReopen\n",
     "refused E33 Worn\n",
     "refused E4 UnknownVersion 4294967295\n",
     "refused E5 Retired 2\n",
     "refused E28 LastVersion 3\n",
     "refused E7 NoStream 4\n",
+    "refused E8 NoPartition 5\n",
+    "refused E9 NoSuchDelta 6\n",
     "refused E27 KeyTooLong 4097\n",
+    "refused E12 TooOld 9\n",
     "refused E13 NotSafe 0 7\n",
+    "refused E14 AboveDurable 7\n",
+    "refused E15 BelowMin 9\n",
     "refused E16 AtEdge 1\n",
     "refused E17 TooManyParts\n",
+    "refused E18 TooManyDeltas\n",
+    "refused E19 JobOpen\n",
+    "refused E20 NoJob\n",
+    "refused E21 NotDone\n",
+    "refused E22 StoreFull 61 1\n",
     "refused E23 FeedFault\n",
+    "refused E24 DiskFault\n",
+    "refused E25 Damaged 1024 61\n",
     "refused E29 OutFault\n",
+    "refused E30 FeedMismatch 64\n",
     "refused E26 Memory\n",
 ];
 

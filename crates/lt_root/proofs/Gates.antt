@@ -2,7 +2,7 @@
 use Rattle.std.proofs.Common.{List, None, Option, Some, add-zero, ap, arith, get_or, inr, length, subst, sym, ℕ, ◌∙◌, ◌≡◌}
 use Rattle.std.specs.Prelude.{IfSome, IsTrue}
 use Rattle.std.proofs.lemmas.Bool.{eq-eqb}
-use Rattle.lt_model.specs.Disk.{Reads, StaysOutside}
+use Rattle.lt_model.specs.Disk.{DiskState, Reads, StaysOutside}
 use Rattle.lt_model.specs.Store.{gate_of, is_open, open_gate}
 use Rattle.lt_disk.proofs.Written.{byte_at}
 use Rattle.lt_root.specs.Roots.{gate_place}
@@ -20,7 +20,7 @@ open_read None slot place buf there size reads gate = tt
 open_read (Some image) slot place buf there size reads gate = eq-eqb (gate_of image slot) open_gate (gate_read (Some image) slot place buf there size reads ∙ gate)
 
 -- an image that differs by the gate alone
-pub closing : {D : Type 0} (told : D → Option (List ℕ)) (may_leave : D → List ℕ → Type 0) (old mid : D) (slot place len : ℕ) (image : List ℕ) → ((c : List ℕ) → may_leave mid c → may_leave old c) → IfSome (told old) (λ t. IsTrue (is_open t slot)) → place ≡ gate_place slot → len ≡ 1
-    → IsWithin may_leave mid place len image → IsClosing told may_leave old slot image
-closing told may_leave old mid slot place len image fewer gate there one (a, left, stays) =
+pub closing : (old mid : DiskState) (slot place len : ℕ) (image : List ℕ) → ((c : List ℕ) → mid.leaves c → old.leaves c) → IfSome old.told (λ t. IsTrue (is_open t slot)) → place ≡ gate_place slot → len ≡ 1
+    → IsWithin mid place len image → IsClosing old slot image
+closing old mid slot place len image fewer gate there one (a, left, stays) =
     (a, fewer a left, inr (gate, subst (λ p. StaysOutside p 1 a image) there (subst (λ n. StaysOutside place n a image) one stays)))

@@ -3,3 +3,4 @@ pub mod Choosing
 pub mod Gates
 pub mod Tears
 pub mod Stages
+pub mod Puts

@@ -1,7 +1,7 @@
 -- What a commit and its steps leave of a disk.
-use Rattle.std.specs.Prelude.{IfSome, IsTrue, List, Option, ℕ, ◌≡◌, ◌⊎◌}
+use Rattle.std.specs.Prelude.{IfSome, IsTrue, List, ℕ, ◌≡◌, ◌⊎◌}
 use Rattle.lt_model.specs.declared.Root.{Root}
-use Rattle.lt_model.specs.Disk.{StaysOutside}
+use Rattle.lt_model.specs.Disk.{DiskState, StaysOutside}
 use Rattle.lt_model.specs.Outside.{HasRoot}
 use Rattle.lt_model.specs.Store.{is_open, slot_place}
 use Rattle.lt_root.specs.Roots.{gate_place}
@@ -11,5 +11,5 @@ abbrev pub HasCommitted : Root → List ℕ → List ℕ → Type 0
 HasCommitted r seen image = HasRoot r image × StaysOutside (slot_place r.slot) 512 seen image
 
 -- an image that is as one of the old ones, or differs from it by a gate alone, and that where the gate reads as open
-abbrev pub IsClosing : {D : Type 0} → (D → Option (List ℕ)) → (D → List ℕ → Type 0) → D → ℕ → List ℕ → Type 0
-IsClosing told may_leave old slot image = (a : List ℕ) × may_leave old a × ((image ≡ a) ⊎ (IfSome (told old) (λ t. IsTrue (is_open t slot)) × StaysOutside (gate_place slot) 1 a image))
+abbrev pub IsClosing : DiskState → ℕ → List ℕ → Type 0
+IsClosing old slot image = (a : List ℕ) × old.leaves a × ((image ≡ a) ⊎ (IfSome old.told (λ t. IsTrue (is_open t slot)) × StaysOutside (gate_place slot) 1 a image))

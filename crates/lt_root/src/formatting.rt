@@ -1,7 +1,7 @@
 //! The first root. Making it takes four calls of the disk.
 
 ghost use Rattle.std.specs.Prelude.{◌≡◌, ◌++◌, ◌<◌, ◌≤◌, IfOk, IfSome, OnOk, Some};
-ghost use Rattle.lt_model.specs.Disk.{HasCause, LeavesOnly, with_bytes, zeros};
+ghost use Rattle.lt_model.specs.Disk.{HasCause, LeftOnly, with_bytes, zeros};
 ghost use Rattle.lt_model.specs.Outside.{HasRoot, LeavesNow};
 ghost use Rattle.lt_disk.specs.Within.{IsStable, IsWithin, ReadsWithin};
 ghost use Rattle.lt_root.specs.Roots.{body_of, first_root, first_slots};
@@ -14,17 +14,17 @@ use lt_model::Root;
 /// Makes the first root, for the manifest at this place. A crash within the call, or a fault, may leave any bytes as the slots.
 pub fn format<D: Disk>(disk: &mut D, place: u64, length: u64) -> Result<Root, DiskFault>
     ensures ok { IfOk result (λ r. r ≡ first_root place length) }
-    ensures bytes { OnOk result (IfSome (D.told disk.old) (λ image. D.told disk.new ≡ Some (with_bytes image 0 (first_slots place length)))) }
-    ensures made { OnOk result (IfSome (D.told disk.old) (λ seen. 1024 ≤ place → 0 < length → LeavesNow D.may_leave disk.new (HasRoot (first_root place length)))) }
+    ensures bytes { OnOk result (IfSome (D.state disk.old).told (λ image. (D.state disk.new).told ≡ Some (with_bytes image 0 (first_slots place length)))) }
+    ensures made { OnOk result (IfSome (D.state disk.old).told (λ seen. 1024 ≤ place → 0 < length → LeavesNow (D.state disk.new) (HasRoot (first_root place length)))) }
 
     // Nothing but the slots changes, in what reads and in each image, and after Ok a crash leaves what reads.
-    ensures others { ReadsWithin D.told 0 1024 disk.old disk.new }
-    ensures images { LeavesOnly D.moment D.left_since disk.old disk.new (IsWithin D.may_leave disk.old 0 1024) }
-    ensures stable { OnOk result (IsStable D.told D.may_leave disk.new) }
+    ensures others { ReadsWithin 0 1024 (D.state disk.old) (D.state disk.new) }
+    ensures images { LeftOnly (D.state disk.old) (D.state disk.new) (IsWithin (D.state disk.old) 0 1024) }
+    ensures stable { OnOk result (IsStable (D.state disk.new)) }
 
-    ensures cause { HasCause (D.faults disk.old) (D.faults disk.new) result }
-    ensures written { HasCause (D.write_faults disk.old) (D.write_faults disk.new) result }
-    ensures read { D.reads disk.new ≡ D.reads disk.old }
+    ensures cause { HasCause (D.state disk.old).faults (D.state disk.new).faults result }
+    ensures written { HasCause (D.state disk.old).write_faults (D.state disk.new).write_faults result }
+    ensures read { (D.state disk.new).reads ≡ (D.state disk.old).reads }
 {
     let root = Root {
         generation: 1,

@@ -1,7 +1,7 @@
 //! Which root counts, read in one call of the disk.
 
 ghost use Rattle.std.specs.Prelude.{◌≡◌, ◌<◌, ◌≤◌, IsTrue, List, Ok, ℕ, IfOk, IfErr, IfSome, length};
-ghost use Rattle.lt_model.specs.Disk.{CountsOne, HasCause, LeavesOnly};
+ghost use Rattle.lt_model.specs.Disk.{CountsOne, HasCause, LeftOnly};
 ghost use Rattle.lt_model.specs.Outside.{StaysTold};
 ghost use Rattle.lt_model.specs.Store.{CountsAsRoot, is_root};
 ghost use Rattle.lt_root.specs.Roots.{AreSlots, RefusesRoot, of_disk};
@@ -15,14 +15,14 @@ use std::cmp::Ordering;
 /// The root that counts. `NoStore` where no gate is open; `Damaged` where an open slot is not of the format, or both are of one
 /// generation.
 pub fn load<D: Disk>(disk: &mut D) -> Result<Root, RootRefusal>
-    ensures ok { IfOk result (λ r. IfSome (D.told disk.old) (λ image. CountsAsRoot image r)) }
-    ensures refused { IfErr result (λ e. IfSome (D.told disk.old) (λ image. RefusesRoot image e)) }
+    ensures ok { IfOk result (λ r. IfSome (D.state disk.old).told (λ image. CountsAsRoot image r)) }
+    ensures refused { IfErr result (λ e. IfSome (D.state disk.old).told (λ image. RefusesRoot image e)) }
     ensures lawful { IfOk result (λ r. IsTrue (is_root r.generation r.place r.length) × (r.slot < 2)) }
-    ensures cause { HasCause (D.faults disk.old) (D.faults disk.new) (of_disk result) }
-    ensures same { D.told disk.new ≡ D.told disk.old }
-    ensures images { LeavesOnly D.moment D.left_since disk.old disk.new (D.may_leave disk.old) }
-    ensures read { CountsOne (D.reads disk.old) (D.reads disk.new) }
-    ensures written { D.write_faults disk.new ≡ D.write_faults disk.old }
+    ensures cause { HasCause (D.state disk.old).faults (D.state disk.new).faults (of_disk result) }
+    ensures same { (D.state disk.new).told ≡ (D.state disk.old).told }
+    ensures images { LeftOnly (D.state disk.old) (D.state disk.new) (D.state disk.old).leaves }
+    ensures read { CountsOne (D.state disk.old).reads (D.state disk.new).reads }
+    ensures written { (D.state disk.new).write_faults ≡ (D.state disk.old).write_faults }
 {
     let mut slots = [0; 2 * SLOT];
     disk.read_at(0, &mut slots)?;

@@ -1,7 +1,7 @@
 //! The steps of which a commit is made. Each makes at most three calls of the disk.
 
 ghost use Rattle.std.specs.Prelude.{◌≡◌, ◌*◌, ◌<◌, ◌≤◌, Some, IfSome, OnOk, false, length};
-ghost use Rattle.lt_model.specs.Disk.{CountsOne, HasCause, LeavesOnly, with_bytes};
+ghost use Rattle.lt_model.specs.Disk.{CountsOne, HasCause, LeftOnly, with_bytes};
 ghost use Rattle.lt_model.specs.Store.{is_open, slot_place};
 ghost use Rattle.lt_root.specs.Roots.{gate_place};
 ghost use Rattle.lt_disk.specs.Within.{IsStable, IsWithin, ReadsWithin};
@@ -29,13 +29,13 @@ pub fn place_of_gate(slot: u8) -> u64
 /// Writes the bytes from a place on, and syncs.
 pub fn put<D: Disk>(disk: &mut D, place: u64, bytes: &[u8]) -> Result<(), DiskFault>
     requires { 0 < length bytes.now }
-    ensures images { LeavesOnly D.moment D.left_since disk.old disk.new (IsWithin D.may_leave disk.old place (length bytes.now)) }
-    ensures reads { ReadsWithin D.told place (length bytes.now) disk.old disk.new }
-    ensures bytes { OnOk result (IfSome (D.told disk.old) (λ a. D.told disk.new ≡ Some (with_bytes a place bytes.now))) }
-    ensures stable { OnOk result (IsStable D.told D.may_leave disk.new) }
-    ensures cause { HasCause (D.faults disk.old) (D.faults disk.new) result }
-    ensures written { HasCause (D.write_faults disk.old) (D.write_faults disk.new) result }
-    ensures read { D.reads disk.new ≡ D.reads disk.old }
+    ensures images { LeftOnly (D.state disk.old) (D.state disk.new) (IsWithin (D.state disk.old) place (length bytes.now)) }
+    ensures reads { ReadsWithin place (length bytes.now) (D.state disk.old) (D.state disk.new) }
+    ensures bytes { OnOk result (IfSome (D.state disk.old).told (λ a. (D.state disk.new).told ≡ Some (with_bytes a place bytes.now))) }
+    ensures stable { OnOk result (IsStable (D.state disk.new)) }
+    ensures cause { HasCause (D.state disk.old).faults (D.state disk.new).faults result }
+    ensures written { HasCause (D.state disk.old).write_faults (D.state disk.new).write_faults result }
+    ensures read { (D.state disk.new).reads ≡ (D.state disk.old).reads }
 {
     disk.write_at(place, bytes)?;
     disk.sync()
@@ -43,14 +43,14 @@ pub fn put<D: Disk>(disk: &mut D, place: u64, bytes: &[u8]) -> Result<(), DiskFa
 
 /// Closes the gate of a slot, where it is open.
 pub fn close_gate<D: Disk>(disk: &mut D, slot: u8) -> Result<(), DiskFault>
-    ensures images { LeavesOnly D.moment D.left_since disk.old disk.new (IsClosing D.told D.may_leave disk.old slot) }
-    ensures reads { ReadsWithin D.told (gate_place slot) 1 disk.old disk.new }
-    ensures closed { OnOk result (IfSome (D.told disk.new) (λ image. is_open image slot ≡ false)) }
-    ensures stable { IsStable D.told D.may_leave disk.old → OnOk result (IsStable D.told D.may_leave disk.new) }
-    ensures cause { HasCause (D.faults disk.old) (D.faults disk.new) result }
-    ensures later { D.write_faults disk.old ≤ D.write_faults disk.new }
-    ensures kept { OnOk result (D.write_faults disk.new ≡ D.write_faults disk.old) }
-    ensures read { CountsOne (D.reads disk.old) (D.reads disk.new) }
+    ensures images { LeftOnly (D.state disk.old) (D.state disk.new) (IsClosing (D.state disk.old) slot) }
+    ensures reads { ReadsWithin (gate_place slot) 1 (D.state disk.old) (D.state disk.new) }
+    ensures closed { OnOk result (IfSome (D.state disk.new).told (λ image. is_open image slot ≡ false)) }
+    ensures stable { IsStable (D.state disk.old) → OnOk result (IsStable (D.state disk.new)) }
+    ensures cause { HasCause (D.state disk.old).faults (D.state disk.new).faults result }
+    ensures later { (D.state disk.old).write_faults ≤ (D.state disk.new).write_faults }
+    ensures kept { OnOk result ((D.state disk.new).write_faults ≡ (D.state disk.old).write_faults) }
+    ensures read { CountsOne (D.state disk.old).reads (D.state disk.new).reads }
 {
     let mut gate = [0; 1];
     disk.read_at(place_of_gate(slot), &mut gate)?;

@@ -14,7 +14,7 @@ use Rattle.lt_model.specs.declared.KeyKind.{KeyKind}
 use Rattle.lt_model.specs.Value.{Value, is_number, is_timestamp, null_value}
 use Rattle.lt_model.specs.Key.{KeyPart, below, bytes_cmp, greater_low, in_range, is_key_of, is_part_of, key_bytes, max_key, part_bytes}
 use Rattle.lt_model.specs.Laws.{AreKeyed, IsKeyed}
-use Rattle.lt_model.specs.Log.{Change, change_key}
+use Rattle.lt_model.specs.Log.{Change, change_key, is_change}
 use Rattle.lt_model.specs.Outside.{is_deliverable}
 use Rattle.lt_model.specs.Query.{all_rows, answer, full_columns, holds, interval, is_true, pick, places_from}
 use Rattle.lt_model.specs.Row.{Entry}
@@ -120,7 +120,7 @@ keyed_by cat c (Some t) l e h = (
 )
 
 keyed : (cat : Catalogue) (c : Change) → IsCatalogue cat → IsTrue (is_deliverable cat c) → IsKeyed cat c
-keyed cat c l h = keyed_by cat c (table_numbered cat c.table) l refl (and_parts (is_timestamp c.ts && nat_le (length (change_key c)) max_key) _ h).1
+keyed cat c l h = keyed_by cat c (table_numbered cat c.table) l refl (and_parts (is_change c) _ h).1
 
 all_keyed : (cat : Catalogue) (cs : List Change) → IsCatalogue cat → AreShaped cat cs → AreKeyed cat cs
 all_keyed cat [] l a = tt

@@ -1,9 +1,5 @@
 //! Who takes the rows of a scan.
 #![tactic(auto)]
 
-mod row_sink;
-#[cfg(test)]
-mod tests;
-
 pub use lt_core::{Memory, Row};
-pub use row_sink::{RowRefusal, RowSink};
+pub use lt_io::{RowRefusal, RowSink};

@@ -149,7 +149,7 @@ few_found cat (Some t) n a e = (find_all (λ t. length t.versions ≤ 256) (λ t
 pub few_versions : (cat : Catalogue) (n : ℕ) → IsCatalogue cat → length (versions_of cat n) ≤ 256
 few_versions cat n is = few_found cat (table_numbered cat n) n (are_few cat is) refl
 
--- ---- a lawful catalogue after an addition, also where memory was wanting
+-- ---- a lawful catalogue after an addition, also where memory ran out
 
 pub stays_lawful : {A E : Type 0} (r : Result A E) (old new : Catalogue) (v : SchemaVersion) → IsCatalogue old → schema_fault old v ≡ None → OnOk r (new ≡ with_version old v) → OnErr r (new ≡ old) → IsCatalogue new
 stays_lawful (Ok a) old new v is none ok err = subst IsCatalogue (sym ok) (after_adding old v is none)

@@ -10,7 +10,7 @@ use Rattle.lt_schema.specs.declared.refusal.SchemaRefusal.TheVariants as refusal
 use Rattle.lt_schema.specs.Catalogues.{tables_with}
 use Rattle.lt_schema.specs.Limits.{over_counts}
 
--- what a refusal says of the version; nothing of it where memory is wanting
+-- what a refusal says of the version; nothing of it where memory ran out
 abbrev pub view_refusal : SchemaRefusal → Option SchemaFault
 view_refusal (refusals.BadNumber number) = Some (schema.bad_number number)
 view_refusal (refusals.BadName name) = Some (schema.bad_name name)

@@ -21,7 +21,7 @@ use Rattle.lt_schema_json.specs.declared.refusal.JsonRefusal.TheVariants as refu
 use Rattle.lt_schema_json.specs.declared.reading.stop.Stop.{Stop}
 use Rattle.lt_schema_json.specs.declared.reading.stop.Stop.TheVariants as stops
 
--- the fault that a refusal stands for; want of memory is none
+-- the fault that a refusal stands for; out of memory is none
 abbrev pub view_fault : JsonRefusal → Option JsonFault
 view_fault refusals.NotJson = Some not_json
 view_fault (refusals.Unknown name) = Some (unknown_member name)

@@ -1,4 +1,6 @@
+pub mod JobLaws
 pub mod LineLaws
 pub mod LiteralLaws
-pub mod Unanswered
+pub mod QueryLaws
+pub mod ReadLaws
 pub mod WordLaws

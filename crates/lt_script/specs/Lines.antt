@@ -1,10 +1,12 @@
 -- What lines stand for, and what is read of a line that is text.
-use Rattle.std.specs.Prelude.{List, Option, false, option_and_then, take, ℕ, ◌+◌, ◌++◌, ◌==◌, ◌∷◌, ◌≡◌}
+use Rattle.std.specs.Prelude.{List, None, Option, [], false, not, option_and_then, option_map, take, ℕ, ◌+◌, ◌++◌, ◌==◌, ◌∷◌, ◌≡◌}
 use Rattle.std.specs.List.{AllByRecursion}
+use Rattle.lt_model.specs.Query.{Query}
 use Rattle.lt_model.specs.Schema.{when}
 use Rattle.lt_model.specs.Script as script
-use Rattle.lt_model.specs.InMemory.{is_answered}
-use Rattle.lt_command.specs.View.{view_command}
+use Rattle.lt_model.specs.InMemory.{has_options}
+use Rattle.lt_command.specs.View.{view_command, view_mode}
+use Rattle.lt_command.specs.declared.command.Mode.{Mode}
 use Rattle.lt_script.specs.declared.line.Line.{Line}
 use Rattle.lt_script.specs.declared.line.Line.TheVariants as lines
 
@@ -13,13 +15,25 @@ view_line lines.Skipped = script.skipped
 view_line lines.Bad = script.bad_line
 view_line (lines.Command c) = script.spells_command (view_command c)
 
--- the command, where it is one that is answered
-abbrev pub answered : List ℕ → Option script.Command → Option script.Command
-answered line o = option_and_then (λ c. when (is_answered line c) c) o
+-- the command, where its line goes on with no options
+abbrev pub without_options : List ℕ → Option script.Command → Option script.Command
+without_options line o = option_and_then (λ c. when (not (has_options line c)) c) o
 
--- the command that a line spells, where it is one that is answered
+-- the command that a line spells, where it has no options
 abbrev pub command_read : List ℕ → Option script.Command
-command_read line = answered line (script.command_in line (script.words line))
+command_read line = without_options line (script.command_in line (script.words line))
+
+-- the query of all rows, at most so many, where its three words are known
+abbrev pub asked : Option (List ℕ) → Option ℕ → Option ℕ → Option ℕ → Option Query
+asked table version at limit = option_and_then (λ t. option_and_then (λ v. option_map (λ a. script.plain_query t v a limit) at) version) table
+
+-- a partition and a mode
+abbrev pub part_and_mode : List (List ℕ) → Option (ℕ × script.Mode)
+part_and_mode [] = None
+part_and_mode (p ∷ ws) = option_and_then (λ p. option_map (λ m. (p, m)) (script.mode_words ws)) (script.small_word p)
+
+abbrev pub view_part_mode : ℕ × Mode → ℕ × script.Mode
+view_part_mode x = (x.0, view_mode x.1)
 
 -- one word
 abbrev pub NoSpace : List ℕ → Type 0

@@ -1,19 +1,18 @@
-//! The commands that are answered, and their lines. Words are read from the front, so that a long text behind them is not parted.
+//! The commands and their lines. Words are read from the front, so that a long text behind them is not parted.
 
 ghost use Rattle.std.specs.Prelude.{◌≡◌, ◌++◌, codes, option_map, IfOk};
 ghost use Rattle.lt_command.specs.View.{view_command};
 ghost use Rattle.lt_script.specs.Lines.{NoSpace, command_read};
 
+use crate::jobs::{read_compact, read_job};
 use crate::literals::read_literals;
-use crate::words::{first_word, large_number, small_number, table_name};
-use lt_command::{Command, Query};
+use crate::queries::{read_page, read_scan};
+use crate::words::{count, first_word, large_number, small_number, table_name};
+use lt_command::Command;
 use lt_core::{Blob, Memory};
 use std::alloc::Global;
 
-/// The least count of records that a pump takes at most.
-const LEAST_COUNT: u32 = 1;
-
-/// The command that a line spells, where it is one that is answered.
+/// The command that a line without options spells.
 pub fn read_command(alloc: Global, line: &str) -> Result<Option<Command>, Memory>
     ensures { IfOk result (λ found. option_map view_command found ≡ command_read line.now) }
 {
@@ -24,8 +23,14 @@ pub fn read_command(alloc: Global, line: &str) -> Result<Option<Command>, Memory
         "schema" => read_schema(alloc, rest),
         "retire" => read_retire(alloc, rest),
         "pump" => read_pump(alloc, rest),
+        "flush" => read_flush(alloc, rest),
+        "compact" => read_compact(alloc, rest),
+        "job" => read_job(alloc, rest),
         "split" => read_split(alloc, rest),
+        "retain" => read_retain(alloc, rest),
         "scan" => read_scan(alloc, rest),
+        "page" => read_page(alloc, rest),
+        "deltas" => read_deltas(alloc, rest),
         _ => Ok(None),
     }
 }
@@ -37,6 +42,7 @@ fn one_word(word: &str) -> Option<Command>
 {
     match word {
         "status" => Some(Command::Status),
+        "reopen" => Some(Command::Reopen),
         _ => None,
     }
 }
@@ -68,24 +74,34 @@ fn read_retire(alloc: Global, rest: &str) -> Result<Option<Command>, Memory>
     Ok(Some(Command::Retire { table, version }))
 }
 
-/// `pump S N`, by what stands behind the first word; N is not 0.
+/// `pump S N`, by what stands behind the first word.
 fn read_pump(alloc: Global, rest: &str) -> Result<Option<Command>, Memory>
     ensures { IfOk result (λ found. option_map view_command found ≡ command_read (codes "pump " ++ rest.now)) }
 {
-    let Some((stream, count)) = first_word(rest) else {
+    let Some((stream, records)) = first_word(rest) else {
         return Ok(None);
     };
     let Some(stream) = small_number(alloc, stream)? else {
         return Ok(None);
     };
-    let Some(count) = small_number(alloc, count)? else {
+    let Some(records) = count(alloc, records)? else {
         return Ok(None);
     };
-    if count < LEAST_COUNT {
+    Ok(Some(Command::Pump {
+        stream,
+        count: records,
+    }))
+}
+
+/// `flush P`, by what stands behind the first word.
+#[tactic(auto, using(crate::proofs::LineLaws::flush_read))]
+fn read_flush(alloc: Global, rest: &str) -> Result<Option<Command>, Memory>
+    ensures { IfOk result (λ found. option_map view_command found ≡ command_read (codes "flush " ++ rest.now)) }
+{
+    let Some(part) = small_number(alloc, rest)? else {
         return Ok(None);
-    }
-    let count = u64::from(count);
-    Ok(Some(Command::Pump { stream, count }))
+    };
+    Ok(Some(Command::Flush { part }))
 }
 
 /// `split TABLE JSON`, by what stands behind the first word; the JSON is an array of literals.
@@ -104,24 +120,24 @@ fn read_split(alloc: Global, rest: &str) -> Result<Option<Command>, Memory>
     Ok(Some(Command::Split { table, key }))
 }
 
-/// `scan TABLE V T`, by what stands behind the first word.
-fn read_scan(alloc: Global, rest: &str) -> Result<Option<Command>, Memory>
-    ensures { IfOk result (λ found. option_map view_command found ≡ command_read (codes "scan " ++ rest.now)) }
+/// `retain T`, by what stands behind the first word.
+#[tactic(auto, using(crate::proofs::LineLaws::retain_read))]
+fn read_retain(alloc: Global, rest: &str) -> Result<Option<Command>, Memory>
+    ensures { IfOk result (λ found. option_map view_command found ≡ command_read (codes "retain " ++ rest.now)) }
 {
-    let Some((table, rest)) = first_word(rest) else {
+    let Some(at) = large_number(alloc, rest)? else {
         return Ok(None);
     };
-    let Some((version, at)) = first_word(rest) else {
+    Ok(Some(Command::Retain { at }))
+}
+
+/// `deltas P`, by what stands behind the first word.
+#[tactic(auto, using(crate::proofs::LineLaws::deltas_read))]
+fn read_deltas(alloc: Global, rest: &str) -> Result<Option<Command>, Memory>
+    ensures { IfOk result (λ found. option_map view_command found ≡ command_read (codes "deltas " ++ rest.now)) }
+{
+    let Some(part) = small_number(alloc, rest)? else {
         return Ok(None);
     };
-    let Some(version) = small_number(alloc, version)? else {
-        return Ok(None);
-    };
-    let Some(at) = large_number(alloc, at)? else {
-        return Ok(None);
-    };
-    let Some(table) = table_name(alloc, table)? else {
-        return Ok(None);
-    };
-    Ok(Some(Command::Scan(Query { table, version, at })))
+    Ok(Some(Command::Deltas { part }))
 }

@@ -4,6 +4,7 @@ ghost use Rattle.std.specs.Prelude.{◌≡◌, IfOk};
 ghost use Rattle.lt_model.specs.InMemory.{line_read};
 ghost use Rattle.lt_script.specs.Lines.{view_line};
 
+use crate::built::is_built;
 use crate::command::read_command;
 use lt_command::Command;
 use lt_core::Memory;
@@ -19,7 +20,7 @@ const HASH: u8 = b'#';
 pub enum Line {
     /// Nothing: it is empty or a comment.
     Skipped,
-    /// Something that is no command here.
+    /// No command, or one that is not built.
     Bad,
     Command(Command),
 }
@@ -40,8 +41,12 @@ pub fn read_line(alloc: Global, line: &[u8]) -> Result<Line, Memory>
     if *first == HASH {
         return Ok(Line::Skipped);
     }
-    match read_command(alloc, text)? {
-        Some(command) => Ok(Line::Command(command)),
-        None => Ok(Line::Bad),
+    let Some(command) = read_command(alloc, text)? else {
+        return Ok(Line::Bad);
+    };
+    if is_built(&command) {
+        Ok(Line::Command(command))
+    } else {
+        Ok(Line::Bad)
     }
 }

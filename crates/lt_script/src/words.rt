@@ -1,7 +1,7 @@
 //! Words, which exactly one space parts: the first one, and what a word stands for.
 
 ghost use Rattle.std.specs.Prelude.{◌≡◌, IfOk, IfNone, IfSome};
-ghost use Rattle.lt_model.specs.Script.{small_word, large_word, table_word};
+ghost use Rattle.lt_model.specs.Script.{count_word, large_word, small_word, table_word};
 ghost use Rattle.lt_script.specs.Lines.{IsParted, NoSpace};
 
 use lt_core::{Memory, Text, TextRefusal};
@@ -9,6 +9,9 @@ use std::alloc::{AllocError, Global};
 
 /// The longest name of a table, in bytes.
 const MAX_TABLE: usize = 64;
+
+/// The least count.
+const LEAST_COUNT: u32 = 1;
 
 /// A line's first word and what stands behind the space after it; none where the line is one word.
 pub fn first_word(line: &str) -> Option<(&str, &str)>
@@ -45,6 +48,16 @@ pub fn small_number(alloc: Global, digits: &str) -> Result<Option<u32>, AllocErr
 {
     match large_number(alloc, digits)? {
         Some(n) if n <= u32::MAX as u64 => Ok(Some(n as u32)),
+        _ => Ok(None),
+    }
+}
+
+/// The number from 1 to 2^32 - 1 that the digits spell, without leading zeros.
+pub fn count(alloc: Global, digits: &str) -> Result<Option<u64>, AllocError>
+    ensures { IfOk result (λ found. found ≡ count_word digits.now) }
+{
+    match small_number(alloc, digits)? {
+        Some(n) if n >= LEAST_COUNT => Ok(Some(u64::from(n))),
         _ => Ok(None),
     }
 }

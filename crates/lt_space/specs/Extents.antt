@@ -30,7 +30,7 @@ pub record IsOverlap (limit : ℕ) (live : List Extent) (place : ℕ) : Type 0 w
   pub here : place ≡ extent.place
   pub least : (e : Extent) → IsMisplaced limit live e → place ≤ e.place
 
--- why extents cannot all be taken; want of memory is free
+-- why extents cannot all be taken; out of memory is always allowed
 abbrev pub RefusesAll : ℕ → List Extent → SpaceRefusal → Type 0
 RefusesAll limit live (refusals.Overlap place) = IsOverlap limit live place
 RefusesAll limit live (refusals.StoreFull need room) = ⊥

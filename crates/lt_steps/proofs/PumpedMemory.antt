@@ -16,6 +16,7 @@ use Rattle.lt_model.specs.Row.{is_in_time}
 use Rattle.lt_model.specs.Sound.{AreAtPlaces, FrontsFrom, PendingOfAll, Stands, items_before, passed, source_of}
 use Rattle.lt_model.specs.Store.{Durable, Part}
 use Rattle.lt_codecs.proofs.ListFacts.{all_append, all_front, all_map, all_rest}
+use Rattle.lt_laws.proofs.FlushLaws.{passed_from}
 use Rattle.lt_laws.proofs.HeldLaws.{rises_tail}
 use Rattle.lt_laws.proofs.ListFacts.{all_at, all_contained, contains_front, contains_rest}
 use Rattle.lt_laws.proofs.PointLaws.{changes_of-append, itself, same}
@@ -154,16 +155,6 @@ passed_one : (f : Header × List Item) (a : StreamAt) → Stands f a → AllByRe
 passed_one f a k = subst (λ (cs : List Change). AllByRecursion (Contains (changes_of f.1)) cs) (sym (passed_is f a k))
     (subst (λ (all : List Change). AllByRecursion (Contains all) (changes_of (take k.0 f.1))) (sym (changes_parted k.0 f.1)) (contained_front (changes_of (take k.0 f.1)) (changes_of (drop k.0 f.1))))
 
-passed_in : (fs : List (Header × List Item)) (ss : List StreamAt) → AreAtPlaces fs ss → AllByRecursion (Contains (source_of fs)) (passed fs ss)
-passed_in [] [] a = tt
-passed_in [] (s ∷ ss) a = absurd a
-passed_in (f ∷ fs) [] a = absurd a
-passed_in (f ∷ fs) (s ∷ ss) a =
-    let mine = changes_of (items_before s.offset (header_length f.0) f.1) in
-    let all = source_of (f ∷ fs) in
-    all_append (Contains all) mine (passed fs ss) (all_map (Contains (changes_of f.1)) (Contains all) mine (λ c h. contains_front (changes_of f.1) (source_of fs) c h) (passed_one f s a.1))
-    (contained_rest (changes_of f.1) (source_of fs) (passed fs ss) (passed_in fs ss a.2))
-
 -- the items of a stream's place
 taken_here : (feed : Feed) (cat : Catalogue) (f : Header × List Item) (fs : List (Header × List Item)) (a : StreamAt) (ss : List StreamAt) (items : List Item) (rest : List ℕ) → IsPrefix feed cat f.0 f.1 → AreAtPlaces (f ∷ fs) (a ∷ ss) → Takes feed cat a items rest
     → AreApart (source_of (f ∷ fs)) → IsNew (source_of (f ∷ fs)) (passed (f ∷ fs) (a ∷ ss)) (changes_of items)
@@ -173,7 +164,7 @@ taken_here feed cat f fs a ss items rest prefix b t apart =
     let before = changes_of (take k.0 f.1) in
     let gone = passed fs ss in
     let parted : changes_of f.1 ≡ before ++ (changes_of items ++ changes_of next.0) = changes_parted k.0 f.1 ∙ ap (λ (x : List Change). before ++ x) (ap changes_of next.1 ∙ changes_of-append items next.0) in
-    let new = parted_new before (changes_of items) (changes_of next.0) (source_of fs) gone (passed_in fs ss b.2) (subst (λ (x : List Change). AreApart (x ++ source_of fs)) parted apart) in
+    let new = parted_new before (changes_of items) (changes_of next.0) (source_of fs) gone (passed_from fs ss b.2) (subst (λ (x : List Change). AreApart (x ++ source_of fs)) parted apart) in
     subst (λ (x : List Change). IsNew (source_of (f ∷ fs)) (x ++ gone) (changes_of items)) (sym (passed_is f a k)) (subst (λ (x : List Change). IsNew (x ++ source_of fs) (before ++ gone) (changes_of items)) (sym parted) new)
 
 taken_by : (feed : Feed) (cat : Catalogue) (n m : ℕ) (items : List Item) (rest : List ℕ) (f : Header × List Item) (fs : List (Header × List Item)) (s stands : StreamAt) (ss : List StreamAt) (b : Bool) → FrontsFrom feed cat m (f ∷ fs) → AreAtPlaces (f ∷ fs) (s ∷ ss)

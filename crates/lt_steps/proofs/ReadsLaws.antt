@@ -422,11 +422,7 @@ shape_known None c h = h
 shape_known (Some t) c h = h
 
 deliverable : (cat : Catalogue) (c : Change) → IsSound cat c → IsTrue (is_deliverable cat c)
-deliverable cat c s =
-    let l = s.2 in
-    let key = right _ (nat_le (length (change_key c)) max_key) (left _ _ (left _ _ (left _ _ l))) in
-    let ts = left _ _ (left _ _ (left _ _ (left _ _ (left _ _ (left _ _ (left _ _ (left _ _ (left _ _ (left _ _ l))))))))) in
-    and_from _ _ (and_from _ _ ts key) (shape_known (table_numbered cat c.table) c (change_shaped s.0 cat s.1.0 c s.1.1))
+deliverable cat c s = and_from _ _ s.2 (shape_known (table_numbered cat c.table) c (change_shaped s.0 cat s.1.0 c s.1.1))
 
 -- ---- the law
 

@@ -1,6 +1,6 @@
 -- What a session holds in memory, and what a schema, a retirement, a split and a pump make of it. Where a session belongs to a feed, each
 -- keeps that it does.
-use Rattle.std.specs.Prelude.{IsTrue, List, None, Some, [], filter, flat_map, if◌then◌else◌, map, not, reverse, zip, ℕ, ◌∷◌, ◌≡◌}
+use Rattle.std.specs.Prelude.{IsTrue, List, None, Some, [], filter, flat_map, if◌then◌else◌, not, reverse, zip, ℕ, ◌∷◌, ◌≡◌}
 use Rattle.std.specs.List.{AllByRecursion}
 use Rattle.lt_model.specs.Fair.{AreShort, Feed, Grows}
 use Rattle.lt_model.specs.Key.{Range, below, in_range}

@@ -1,27 +1,41 @@
 //! The lines of a status.
 
-ghost use Rattle.std.specs.Prelude.{◌≡◌, ◌++◌, ◌<◌, None, flat_map, string_bytes, IfOk, OnOk};
-ghost use Rattle.lt_model.specs.Reply.{bound_text, ended, part_line, part_lines, reply_text as reply_line, status_told, stream_line};
+ghost use Rattle.std.specs.Prelude.{◌≡◌, ◌++◌, ◌<◌, flat_map, string_bytes, IfOk, OnOk};
+ghost use Rattle.lt_model.specs.Reply.{bound_text, ended, job_text, part_line, part_lines, status_told, stream_line};
 ghost use Rattle.lt_model.specs.SchemaText.{hex_glyph, hex_text};
-ghost use Rattle.lt_reply.specs.View.{view_part, view_parts, view_stream, view_streams};
+ghost use Rattle.lt_reply.specs.View.{Prints, view_part, view_parts, view_stream, view_streams};
 
 use crate::reply::{PartLine, PartLines, StreamLine, StreamLines};
+use crate::text::replies::progress_word;
 use lt_core::{KeyBytes, Memory, Ts};
+use lt_model::Progress;
 use std::alloc::Global;
 
-/// The minimum, a line for each partition and for each stream, and that no job is open.
-#[tactic(auto, unfolding(lt_model::specs::Reply::reply_text))]
+/// The minimum, a line for each partition and for each stream, and where the job stands.
 pub fn status_words(
     alloc: Global,
     minimum: Ts,
     parts: &PartLines,
     streams: &StreamLines,
+    job: Option<Progress>,
 ) -> Result<String, Memory>
-    ensures { IfOk result (λ s. ended (string_bytes s) ≡ reply_line (status_told minimum (view_parts parts.now) (view_streams streams.now) None)) }
+    ensures { IfOk result (λ s.
+        Prints (string_bytes s) (status_told minimum (view_parts parts.now) (view_streams streams.now) job)) }
 {
     let parts = parts_text(alloc, parts.as_slice())?;
     let streams = streams_text(alloc, streams.as_slice())?;
-    Ok(format!(in alloc; "minimum {minimum}\n{parts}{streams}job none\nok status")?)
+    let job = job_word(job);
+    Ok(format!(in alloc; "minimum {minimum}\n{parts}{streams}job {job}\nok status")?)
+}
+
+/// Whether the open job has keys left, or that none is open.
+fn job_word(job: Option<Progress>) -> &'static str
+    ensures { result.now ≡ job_text job }
+{
+    match job {
+        Some(progress) => progress_word(progress),
+        None => "none",
+    }
 }
 
 /// The lines of the partitions, which are numbered from 0.

@@ -1,7 +1,7 @@
 //! Limits: of tables, versions, column numbers, leaves of carriers, and the names of an enum.
 //!
 //! Counting takes time linear in the version, times what the table holds, and takes memory for the carriers. The
-//! recursion goes down a kind, which nests at most 4 deep by then. A count past 32 bits is answered as want of memory:
+//! recursion goes down a kind, which nests at most 4 deep by then. A count past 32 bits is answered as out of memory:
 //! what it counts would fill more than 2^32 places.
 
 ghost use Rattle.std.specs.Prelude.{◌≡◌, ◌+◌, ◌++◌, [], ◌∷◌, map, option_map, IfOk, OnOk};

@@ -1,28 +1,29 @@
 use Rattle.std.proofs.Common.{Some, ap, subst, sym, ◌++◌, ◌∙◌, ◌≡◌}
 use Rattle.std.specs.Prelude.{IfOk}
-use Rattle.lt_model.specs.Outside.{BelongsTo}
-use Rattle.lt_model.specs.Run.{result_text}
-use Rattle.lt_engine.specs.State.{memory_of, state_of}
+use Rattle.lt_command.specs.View.{view_command}
 use Rattle.lt_engine.specs.Steps.{answer_of}
+use Rattle.lt_model.specs.InMemory.{is_built}
+use Rattle.lt_model.specs.Outside.{is_command}
+use Rattle.lt_model.specs.Run.{result_text}
 use Rattle.lt_schema.specs.View.{view_version}
-use Rattle.lightning_cli.proofs.CommandLaws.{by_rows}
-use Rattle.lightning_cli.proofs.FeedLaws.{at_told, belongs_grown}
+use Rattle.lightning_cli.proofs.CommandLaws.{leads, spells_rows, texts_state}
+use Rattle.lightning_cli.proofs.EndLaws.{never_rose, second_holds}
 use Rattle.lightning_cli.proofs.command.answer_by.Goals as goal
 
-pub returns-clause-belongs : goal.returns-clause-belongs
-returns-clause-belongs g c f h old new b =
-    let r = c.args.replica.now in
-    let e = c.step-answer.ensures in
-    at_told (λ x. BelongsTo x (state_of r) (memory_of r) → BelongsTo x (state_of c.step-answer.new.self) (memory_of c.step-answer.new.self)) _ h new e.belongs
-    (belongs_grown _ _ f h (state_of r) (memory_of r) old new e.feed.grows (g.met.F.Feed.short c.step-answer.new.feed) b)
-
 pub returns-clause-answered : goal.returns-clause-answered
-returns-clause-answered g c f h old new b =
+returns-clause-answered g c start m now stands =
+    let D = g.D.Disk in
     let F = g.F.Feed in
-    let r = c.args.replica.now in
     let e = c.step-answer.ensures in
     let rows = c.new-rows.result in
-    by_rows (F.told c.step-answer.new.feed) (F.faults c.args.feed.now, F.calls c.args.feed.now) (F.faults c.step-answer.new.feed, F.calls c.step-answer.new.feed) h (state_of r) (state_of c.step-answer.new.self) (memory_of r) c.args.command.now (view_version rows.version) c.step-answer.result
-    rows.text c.step-answer.new.rows.text c.with_line.result new (belongs_grown _ _ f h (state_of r) (memory_of r) old new e.feed.grows (g.met.F.Feed.short c.step-answer.new.feed) b)
-    (c.requires.version ∙ ap (λ v. Some (view_version v)) (sym c.new-rows.ensures.version)) c.new-rows.ensures.text e.machine e.causes e.feed_failed (λ q. ap F.calls (e.quiet q))
-    (subst (λ x. IfOk c.with_line.result (λ all. all ≡ x ++ result_text (answer_of c.step-answer.result))) c.into_text.ensures c.with_line.ensures)
+    let texts = c.step-answer.new.rows.text in
+    let command = view_command c.args.command.now in
+    let r = answer_of c.step-answer.result in
+    let v = view_version rows.version in
+    let w = view_version c.step-answer.new.rows.version in
+    let built = second_holds (is_command command) (is_built command) c.requires.command in
+    let reads = c.requires.version m.session stands.stands ∙ ap (λ x. Some (view_version x)) (sym c.new-rows.ensures.version) in
+    leads (D.state c.args.disk.now) (D.state c.step-answer.new.disk) (F.state c.args.feed.now) (F.state c.step-answer.new.feed) (texts_state v rows.text) (texts_state w texts)
+    start m command r c.args.replica.now c.step-answer.new.self c.with_line.result texts built never_rose now stands e.goes.1.feed (g.met.F.Feed.short c.step-answer.new.feed) e.stepped
+    (spells_rows v w rows.text texts m.session.state command r built reads c.new-rows.ensures.text)
+    (subst (λ x. IfOk c.with_line.result (λ all. all ≡ x ++ result_text r)) c.into_text.ensures c.with_line.ensures)

@@ -1,29 +1,31 @@
-use Rattle.std.proofs.Common.{◌≡◌, ◌≤◌, ◌^◌, [], length}
-use Rattle.lt_model.specs.Program.{Told}
-use Rattle.lightning_cli.specs.Serving.{Goes, IsServing, IsTaken, Sees}
-use Rattle.lt_engine.specs.State.{memory_of, state_of}
-use Rattle.lt_model.specs.Outside.{BelongsTo}
-use Rattle.lt_pump.specs.Feeds.{FeedGoes}
+use Rattle.std.proofs.Common.{◌≡◌, ◌≤◌, []}
+use Rattle.lt_model.specs.Outside.{BytesGo, FeedGoes}
+use Rattle.lt_model.specs.Program.{Tells, Told, outside_of}
+use Rattle.lt_model.specs.Run.{Moment, max_script}
+use Rattle.lt_engine.specs.State.{IsFed}
+use Rattle.lightning_cli.specs.Commands.{StandsIn}
+use Rattle.lightning_cli.specs.Serving.{IsServing, IsTaken, Unfailed}
 use Rattle.lightning_cli.proofs.serve.serve.Given as goal
 
 abbrev pub invariant-loop : goal.invariant-loop
 invariant-loop g l =
+    let D = g.D.Disk in
     let F = g.F.Feed in
     let S = g.S.Source in
     let K = g.K.Sink in
     record {
-      short : l.count ≤ 2 ^ 32;
+      short : l.count ≤ max_script;
       turns : l.counter ≤ l.count;
       written : l.server.replies.items ≡ [];
-      known : length (state_of l.server.replica).streams ≤ F.known l.feed;
+      fed : IsFed l.server.replica (F.state l.feed);
       disk : l.disk ≡ l.fn.disk;
-      feed : FeedGoes (F.told l.fn.feed) (F.told l.feed) (F.known l.fn.feed) (F.known l.feed) (F.faults l.fn.feed, F.calls l.fn.feed) (F.faults l.feed, F.calls l.feed);
-      script : Goes (S.left l.fn.script) (S.left l.script) (S.faults l.fn.script) (S.faults l.script);
-      out : Goes (K.held l.fn.out) (K.held l.out) (K.faults l.fn.out) (K.faults l.out);
-      left : IsTaken (S.left l.fn.script) (S.left l.script) l.count;
-      unfailed : (K.faults l.out ≡ K.faults l.fn.out) × (S.faults l.script ≡ S.faults l.fn.script);
-      unstopped : (K.failed_at l.out ≡ K.failed_at l.fn.out) × (S.failed_at l.script ≡ S.failed_at l.fn.script);
-      serving : (old now : Told) → Sees (F.told l.fn.feed) (S.left l.fn.script) (K.held l.fn.out) (F.faults l.fn.feed, F.calls l.fn.feed) (K.faults l.fn.out) (S.faults l.fn.script) old
-          → Sees (F.told l.feed) (S.left l.script) (K.held l.out) (F.faults l.feed, F.calls l.feed) (K.faults l.out) (S.faults l.script) now
-          → BelongsTo old.feed (state_of l.fn.replica) (memory_of l.fn.replica) → IsServing old now (state_of l.fn.replica) l.count l.server.replica l.server.replies.items l.server.line.items;
+      feed : FeedGoes (F.state l.fn.feed) (F.state l.feed);
+      script : BytesGo (S.state l.fn.script) (S.state l.script);
+      out : BytesGo (K.state l.fn.out) (K.state l.out);
+      taken : IsTaken (S.state l.fn.script).told (S.state l.script).told l.count;
+      script_unfailed : Unfailed (S.state l.fn.script) (S.state l.script);
+      out_unfailed : Unfailed (K.state l.fn.out) (K.state l.out);
+      serving : (m : Moment) (old : Told) → Tells (outside_of (D.state l.fn.disk) (F.state l.fn.feed) (S.state l.fn.script) (K.state l.fn.out)) old
+          → m.feed ≡ old.feed → m.counts ≡ old.counts → StandsIn (D.state l.fn.disk) m l.fn.replica
+          → IsServing m old (outside_of (D.state l.disk) (F.state l.feed) (S.state l.script) (K.state l.out)) l.count [] l.server;
     }

@@ -1,60 +1,103 @@
-use Rattle.std.proofs.Common.{◌≡◌, ◌+◌, ◌<◌, ◌≤◌, ◌^◌, sym, ap, ◌∙◌, ◌++◌, [], take, drop, arith, refl, length}
-use Rattle.std.proofs.Common.{rules, length-drop, ◌-◌}
+use Rattle.std.proofs.Common.{◌≡◌, ◌+◌, ◌<◌, ◌≤◌, ◌^◌, ap, [], take, drop, arith, refl, length, inl, inr, rules, length-drop, ◌-◌}
 use Rattle.std.proofs.lemmas.List.{length-take-le}
-use Rattle.std.specs.Prelude.{codes}
-use Rattle.lightning_cli.specs.Serving.{Served}
-use Rattle.lightning_cli.specs.Commands.{feed_counts}
 use Rattle.lt_pump.proofs.FeedLaws.{goes_itself}
-use Rattle.lightning_cli.proofs.OutLaws.{appended, at_its_end, cut_bytes, by_finish, consumed, kept_same, rose_to, script_fault_is, wrote_more}
-use Rattle.lightning_cli.proofs.RunLaws.{run_at, run_replies, same_told}
-use Rattle.lightning_cli.proofs.ServeLaws.{fault_cut, fault_served}
+use Rattle.lightning_cli.proofs.EndLaws.{finish_status, script_failed, script_kept}
+use Rattle.lightning_cli.proofs.OutLaws.{cut_bytes, finish_as, out_finishes, script_fault_is}
+use Rattle.lightning_cli.proofs.ServeLaws.{ahead_is, fault_served, none_left, read_on}
 use Rattle.lightning_cli.proofs.serve.take_piece.Goals as goal
 
-pub returns-in-Err-clause-feed : goal.returns-in-Err-clause-feed
-returns-in-Err-clause-feed g c = goes_itself _ _ _
+-- ---- the script fails
 
-pub returns-in-Err-clause-served : goal.returns-in-Err-clause-served
-returns-in-Err-clause-served g c old mid now s0 seen seen' disk s =
-    let h = run_replies [] c.requires.written (same_told (g.F.Feed.told c.args.feed.now) seen.feed seen'.feed (run_at (feed_counts now.counts) (sym seen.counted ∙ seen'.counted) s.stands.run)) in
-    let took = s.took ∙ ap (λ x. s.bytes ++ x) (sym (kept_same _ _ mid.script now.script seen.script seen'.script c.in-Err.ensures.bytes)) in
-    let out : old.counts.out ≤ now.counts.out = omega (arith, s.out, seen.out, seen'.out, c.finish.ensures.later) in
-    let later : old.counts.script ≤ now.counts.script = omega (arith, s.script, seen.read, seen'.read, c.read.ensures.cause.later) in
-    let rose = rose_to (seen.read ∙ s.script) seen'.read c.in-Err.ensures.cause.failed in
-    let short : length s.bytes ≤ 2 ^ 32 = omega (arith, s.number, c.requires.short) in
-    by_finish _ _ _ _ (Served old now s0) c.finish.result 3 (codes "stopped 3 ScriptFault\n") c.finish.ensures.all c.finish.ensures.front
-    (λ a. fault_served old now s.bytes s.written h rose short took (wrote_more old.written mid.written s.written now.written _ _ s.wrote (appended _ _ _ _ (codes "stopped 3 ScriptFault\n") seen.written seen'.written a) script_fault_is) out later disk)
-    (λ front begins a. fault_cut old now s.bytes s.written front h (begins.0, sym script_fault_is ∙ begins.1) rose short took
-    (wrote_more old.written mid.written s.written now.written _ _ s.wrote (appended _ _ _ _ front seen.written seen'.written a) refl) out later disk)
+pub returns-in-Err-clause-serves : goal.returns-in-Err-clause-serves
+returns-in-Err-clause-serves g c m old s =
+    let e = c.in-Err.ensures in
+    fault_served m old _ _ _ _ _ _ c.args.count c.args.server.now c.finish.result c.requires.short c.requires.written e.cause.failed (record { stays = c.read.ensures.stays; faults = c.read.ensures.cause.later }) e.bytes s
+    (finish_as _ _ _ _ 3 _ script_fault_is c.finish.ensures.finishes) c.finish.ensures.goes
 
-pub returns-then-n-eq0-clause-served : goal.returns-then-n-eq0-clause-served
-returns-then-n-eq0-clause-served g c old mid now s0 seen seen' disk s =
-    let e = c.in-Ok.ensures.bytes in
-    let none = c.if-n-eq0.true in
-    let at_end' = at_its_end _ now.script seen'.script (e.1 none (search rules)) in
-    let at_end = consumed _ _ mid.script now.script (take c.in-Ok.n c.read.new.buf) seen.script seen'.script e.0 ∙ ap (λ k. take k c.read.new.buf ++ now.script) none ∙ at_end' in
-    c.end.ensures.served old mid now s0 c.args.count (record { feed = seen.feed; script = refl; written = seen.written; counted = seen.counted; out = seen.out; read = refl }) (record { feed = seen'.feed; script = refl; written = seen'.written; counted = seen'.counted; out = seen'.out; read = sym seen.read ∙ sym c.in-Ok.ensures.cause.kept ∙ seen'.read }) at_end at_end' disk c.requires.short s
+pub returns-in-Err-clause-script_over : goal.returns-in-Err-clause-script_over
+returns-in-Err-clause-script_over g c = script_failed _ _ _ (finish_status _ _ _ 3 c.finish.result c.finish.ensures.finishes) c.in-Err.ensures.cause.failed c.in-Err.ensures.first_fault
 
-pub returns-then-n-room-clause-served : goal.returns-then-n-room-clause-served
-returns-then-n-room-clause-served g c old mid now s0 seen seen' disk s =
-    let e = c.in-Ok.ensures.bytes in
-    let x = consumed _ _ mid.script now.script (take c.in-Ok.n c.read.new.buf) seen.script seen'.script e.0 in
+pub returns-in-Err-clause-out_over : goal.returns-in-Err-clause-out_over
+returns-in-Err-clause-out_over g c = out_finishes _ _ _ 3 _ (λ e. absurd (omega (arith, e))) c.finish.ensures.finishes
+
+pub returns-in-Err-clause-too_long : goal.returns-in-Err-clause-too_long
+returns-in-Err-clause-too_long g c e = elim (finish_status _ _ _ 3 c.finish.result c.finish.ensures.finishes) [
+  | inl x ↦ absurd (omega (arith, x, e))
+  | inr x ↦ absurd (omega (arith, x, e))
+]
+
+pub returns-in-Err-clause-statuses : goal.returns-in-Err-clause-statuses
+returns-in-Err-clause-statuses g c = elim (finish_status _ _ _ 3 c.finish.result c.finish.ensures.finishes) [
+  | inl x ↦ inr (inl x)
+  | inr x ↦ inr (inr (inl x))
+]
+
+pub returns-in-Err-clause-goes : goal.returns-in-Err-clause-goes
+returns-in-Err-clause-goes g c = (refl, goes_itself _, record { stays = c.read.ensures.stays; faults = c.read.ensures.cause.later }, c.finish.ensures.goes)
+
+-- ---- it is read to its end
+
+pub returns-then-n-eq0-clause-serves : goal.returns-then-n-eq0-clause-serves
+returns-then-n-eq0-clause-serves g c m old s =
+    let e = c.in-Ok.ensures in
+    let t = read_on m old _ _ _ _ _ c.args.count (take c.in-Ok.n c.read.new.buf) c.args.server.now c.read.ensures.stays e.bytes.0 e.cause.kept s in
+    let none = ahead_is (take c.in-Ok.n c.read.new.buf) [] (ap (λ k. take k c.read.new.buf) c.if-n-eq0.true) t in
+    c.end.ensures.served m old _ c.args.count (none_left m old _ c.args.count [] c.args.server.now none (e.bytes.1 c.if-n-eq0.true (search rules))) c.requires.short none
+
+pub returns-then-n-eq0-clause-script_over : goal.returns-then-n-eq0-clause-script_over
+returns-then-n-eq0-clause-script_over g c = script_kept _ _ _ (λ e. elim c.end.ensures.statuses [
+  | inl x ↦ absurd (omega (arith, x, e))
+  | inr (inl x) ↦ absurd (omega (arith, x, e))
+  | inr (inr x) ↦ absurd (omega (arith, x, e))
+]) (record { faults = c.in-Ok.ensures.cause.kept; failed_at = c.in-Ok.ensures.first_fault })
+
+pub returns-then-n-eq0-clause-too_long : goal.returns-then-n-eq0-clause-too_long
+returns-then-n-eq0-clause-too_long g c e = elim c.end.ensures.statuses [
+  | inl x ↦ absurd (omega (arith, x, e))
+  | inr (inl x) ↦ absurd (omega (arith, x, e))
+  | inr (inr x) ↦ absurd (omega (arith, x, e))
+]
+
+pub returns-then-n-eq0-clause-statuses : goal.returns-then-n-eq0-clause-statuses
+returns-then-n-eq0-clause-statuses g c = elim c.end.ensures.statuses [
+  | inl x ↦ inl x
+  | inr (inl x) ↦ inr (inr (inl x))
+  | inr (inr x) ↦ inr (inr (inr (inr x)))
+]
+
+-- ---- it is too long
+
+pub returns-then-n-room-clause-serves : goal.returns-then-n-room-clause-serves
+returns-then-n-room-clause-serves g c m old s =
+    let e = c.in-Ok.ensures in
+    let buf = c.read.new.buf in
     let room = 2 ^ 32 - c.args.count in
     let within : room ≤ c.in-Ok.n = omega (arith, c.if-n-room.true) in
-    let fits : room ≤ length c.read.new.buf = omega (arith, within, c.in-Ok.ensures.bound) in
-    let more = drop room (take c.in-Ok.n c.read.new.buf) in
-    let piece = x ∙ ap (λ z. z ++ now.script) (cut_bytes c.in-Ok.n room c.read.new.buf within) in
-    let full : c.args.count + length (take room c.read.new.buf) ≡ 2 ^ 32 = omega (arith, c.requires.short, length-take-le room c.read.new.buf fits) in
-    let over : 0 < length more = omega (arith, c.if-n-room.true, length-drop room (take c.in-Ok.n c.read.new.buf), length-take-le c.in-Ok.n c.read.new.buf c.in-Ok.ensures.bound) in
-    c.cut.ensures.served old mid now s0 c.args.count more (record { feed = seen.feed; script = refl; written = seen.written; counted = seen.counted; out = seen.out; read = refl }) (record { feed = seen'.feed; script = refl; written = seen'.written; counted = seen'.counted; out = seen'.out; read = sym seen.read ∙ sym c.in-Ok.ensures.cause.kept ∙ seen'.read }) piece full over disk s
+    let fits : room ≤ length buf = omega (arith, within, e.bound) in
+    let more = drop room (take c.in-Ok.n buf) in
+    let full : c.args.count + length (take room buf) ≡ 2 ^ 32 = omega (arith, c.requires.short, length-take-le room buf fits) in
+    let over : 0 < length more = omega (arith, c.if-n-room.true, length-drop room (take c.in-Ok.n buf), length-take-le c.in-Ok.n buf e.bound) in
+    let t = read_on m old _ _ _ _ _ c.args.count (take c.in-Ok.n buf) c.args.server.now c.read.ensures.stays e.bytes.0 e.cause.kept s in
+    c.cut.ensures.served m old _ c.args.count more full over (ahead_is (take c.in-Ok.n buf) _ (cut_bytes c.in-Ok.n room buf within) t)
 
-pub returns-clause-goes_on : goal.returns-clause-goes_on
-returns-clause-goes_on g c old mid now s0 seen seen' s =
-    let e = c.in-Ok.ensures.bytes in
-    let x = consumed _ _ mid.script now.script (take c.in-Ok.n c.read.new.buf) seen.script seen'.script e.0 in
-    c.digest.ensures.goes_on old mid now s0 c.args.count (record { feed = seen.feed; script = refl; written = seen.written; counted = seen.counted; out = seen.out; read = refl }) (record { feed = seen'.feed; script = refl; written = seen'.written; counted = seen'.counted; out = seen'.out; read = sym seen.read ∙ sym c.in-Ok.ensures.cause.kept ∙ seen'.read }) x s
+pub returns-then-n-room-clause-script_over : goal.returns-then-n-room-clause-script_over
+returns-then-n-room-clause-script_over g c = script_kept _ _ _ (λ e. elim c.cut.ensures.statuses [
+  | inl x ↦ absurd (omega (arith, x, e))
+  | inr (inl x) ↦ absurd (omega (arith, x, e))
+  | inr (inr x) ↦ absurd (omega (arith, x, e))
+]) (record { faults = c.in-Ok.ensures.cause.kept; failed_at = c.in-Ok.ensures.first_fault })
 
-pub returns-clause-served : goal.returns-clause-served
-returns-clause-served g c old mid now s0 seen seen' disk s =
-    let e = c.in-Ok.ensures.bytes in
-    let x = consumed _ _ mid.script now.script (take c.in-Ok.n c.read.new.buf) seen.script seen'.script e.0 in
-    c.digest.ensures.served old mid now s0 c.args.count (record { feed = seen.feed; script = refl; written = seen.written; counted = seen.counted; out = seen.out; read = refl }) (record { feed = seen'.feed; script = refl; written = seen'.written; counted = seen'.counted; out = seen'.out; read = sym seen.read ∙ sym c.in-Ok.ensures.cause.kept ∙ seen'.read }) x (omega (arith, c.requires.short, c.if-n-room.false, length-take-le c.in-Ok.n c.read.new.buf c.in-Ok.ensures.bound)) disk s
+pub returns-then-n-room-clause-statuses : goal.returns-then-n-room-clause-statuses
+returns-then-n-room-clause-statuses g c = elim c.cut.ensures.statuses [
+  | inl x ↦ inr (inr (inl x))
+  | inr (inl x) ↦ inr (inr (inr (inl x)))
+  | inr (inr x) ↦ inr (inr (inr (inr x)))
+]
+
+-- ---- a piece is taken
+
+pub returns-clause-serves : goal.returns-clause-serves
+returns-clause-serves g c m old s =
+    let e = c.in-Ok.ensures in
+    let t = read_on m old _ _ _ _ _ c.args.count (take c.in-Ok.n c.read.new.buf) c.args.server.now c.read.ensures.stays e.bytes.0 e.cause.kept s in
+    c.digest.ensures.serves m old _ c.args.count (omega (arith, c.requires.short, c.if-n-room.false, length-take-le c.in-Ok.n c.read.new.buf e.bound)) t

@@ -12,10 +12,7 @@ use Rattle.lt_root.proofs.formatting.format.Goals as goal
 
 abbrev device : (g : given.Over) → Device g.row.D.Denot
 device g = record {
-  told = g.D.Disk.told;
-  moment = g.D.Disk.moment;
-  may_leave = g.D.Disk.may_leave;
-  left_since = g.D.Disk.left_since;
+  state = g.D.Disk.state;
   counts_now = g.met.D.Disk.counts_now;
   only_now = g.met.D.Disk.only_now;
   reads_an_image = g.met.D.Disk.reads_an_image;
@@ -69,17 +66,17 @@ returns-clause-images g c =
 
 pub returns-clause-bytes : goal.returns-clause-bytes
 returns-clause-bytes g c =
-    let told = g.D.Disk.told in
+    let told = λ (d : g.row.D.Denot). (g.D.Disk.state d).told in
     where_told (told c.args.disk.now) _ (λ a seen.
     reads_first told c.args.disk.now c.put.new.disk c.put-2.new.disk a c.closed_slots.result c.place_of_gate.result (first_root c.args.place c.args.length) seen c.closed_slots.ensures c.place_of_gate.ensures c.in_ok-put.ensures.bytes c.in_ok-put-2.ensures.bytes)
 
 pub returns-clause-made : goal.returns-clause-made
 returns-clause-made g c =
-    let told = g.D.Disk.told in
+    let told = λ (d : g.row.D.Denot). (g.D.Disk.state d).told in
     let n = first_root c.args.place c.args.length in
     where_told (told c.args.disk.now) _ (λ a seen behind some image left.
     let lawful = lawful_root 1 c.args.place c.args.length (omega arith) (omega arith) behind (omega (arith, c.ranges.place.fits)) some (omega (arith, c.ranges.length.fits)) in
     let slots = first_slots c.args.place c.args.length in
     let reads = reads_first told c.args.disk.now c.put.new.disk c.put-2.new.disk a c.closed_slots.result c.place_of_gate.result n seen c.closed_slots.ensures c.place_of_gate.ensures c.in_ok-put.ensures.bytes c.in_ok-put-2.ensures.bytes in
-    let only = told_at (told c.put-2.new.disk) (with_bytes a 0 slots) (λ b. Only b (g.D.Disk.may_leave c.put-2.new.disk)) reads c.in_ok-put-2.ensures.stable in
+    let only = told_at (told c.put-2.new.disk) (with_bytes a 0 slots) (λ b. Only b (g.D.Disk.state c.put-2.new.disk).leaves) reads c.in_ok-put-2.ensures.stable in
     subst (HasRoot n) (sym (only image left)) (first_made a n refl lawful))

@@ -8,10 +8,7 @@ use Rattle.lt_root.proofs.writing.close_gate.Goals as goal
 
 abbrev device : (g : given.Over) → Device g.row.D.Denot
 device g = record {
-  told = g.D.Disk.told;
-  moment = g.D.Disk.moment;
-  may_leave = g.D.Disk.may_leave;
-  left_since = g.D.Disk.left_since;
+  state = g.D.Disk.state;
   counts_now = g.met.D.Disk.counts_now;
   only_now = g.met.D.Disk.only_now;
   reads_an_image = g.met.D.Disk.reads_an_image;
@@ -22,8 +19,8 @@ returns-clause-images g c =
     let v = device g in
     let old = c.args.disk.now in
     let mid = c.read_at.new.self in
-    let gate = open_read (v.told old) c.args.slot c.place_of_gate.result c.read_at.new.buf c.place_of_gate.ensures c.read_at.auto.buf c.in_ok-read_at.ensures.bytes c.if-gate.false in
-    joined v old mid c.put.new.disk (v.may_leave old) (IsWithin v.may_leave mid c.place_of_gate-2.result 1) (IsClosing v.told v.may_leave old c.args.slot)
-    (still v old mid (v.may_leave old) (λ image left. left) c.read_at.ensures.called.time c.read_at.ensures.crash) c.put.ensures.images
+    let gate = open_read (v.state old).told c.args.slot c.place_of_gate.result c.read_at.new.buf c.place_of_gate.ensures c.read_at.auto.buf c.in_ok-read_at.ensures.bytes c.if-gate.false in
+    joined v old mid c.put.new.disk (v.state old).leaves (IsWithin (v.state mid) c.place_of_gate-2.result 1) (IsClosing (v.state old) c.args.slot)
+    (still v old mid (v.state old).leaves (λ image left. left) c.read_at.ensures.called.time c.read_at.ensures.crash) c.put.ensures.images
     (λ image left. (image, left, inl refl))
-    (λ image within. closing v.told v.may_leave old mid c.args.slot c.place_of_gate-2.result 1 image c.read_at.ensures.crash gate c.place_of_gate-2.ensures refl within)
+    (λ image within. closing (v.state old) (v.state mid) c.args.slot c.place_of_gate-2.result 1 image c.read_at.ensures.crash gate c.place_of_gate-2.ensures refl within)

@@ -1,6 +1,7 @@
 use Rattle.std.proofs.Common.{sym, ◌∙◌}
 use Rattle.lt_model.specs.Script.{do_retire, small_word, table_word}
-use Rattle.lt_script.proofs.LineLaws.{no_first, no_second, pair_is, retire_read, retire_whole}
+use Rattle.lt_script.proofs.LineLaws.{retire_read, retire_whole}
+use Rattle.lt_script.proofs.ReadLaws.{no_first, no_second, pair_is}
 use Rattle.lt_script.proofs.command.read_retire.Goals as goal
 
 pub returns-in_default : goal.returns-in_default

@@ -1,7 +1,8 @@
 use Rattle.std.proofs.Common.{sym, ap, option_map, ◌∙◌}
 use Rattle.lt_model.specs.Script.{do_split, table_word}
 use Rattle.lt_pred.specs.View.{view_literals}
-use Rattle.lt_script.proofs.LineLaws.{key_read, no_first, no_second, pair_is, split_read, split_whole}
+use Rattle.lt_script.proofs.LineLaws.{key_read, split_read, split_whole}
+use Rattle.lt_script.proofs.ReadLaws.{no_first, no_second, pair_is}
 use Rattle.lt_script.proofs.command.read_split.Goals as goal
 
 pub returns-in_default : goal.returns-in_default

@@ -1,82 +1,121 @@
-use Rattle.std.proofs.Common.{sym, ap, refl, subst, length, [], ◌∙◌, ◌++◌, ◌+◌, ◌≤◌, take, append-nil, append_assoc, take-suc, take_all, add-one}
-use Rattle.lt_laws.proofs.FrontLaws.{grows_itself}
-use Rattle.lt_engine.specs.State.{state_of}
+use Rattle.std.proofs.Common.{sym, ap, refl, subst, [], ◌∙◌, ◌++◌, ◌+◌, arith, take, append-nil, append_assoc, take-suc, take_all, add-one}
+use Rattle.lt_engine.specs.State.{IsFed}
+use Rattle.lt_model.specs.Program.{IsFront}
 use Rattle.lt_pump.proofs.FeedLaws.{goes_itself, goes_then}
-use Rattle.lightning_cli.proofs.FeedLaws.{told_grew, told_on}
-use Rattle.lightning_cli.proofs.RunLaws.{front_of_bytes, has_run_front, has_run_some, same_stands, stands_at, stands_to}
-use Rattle.lightning_cli.proofs.OutLaws.{appends_nothing, appends_then, out_goes, out_goes_then}
-use Rattle.lightning_cli.proofs.ServeLaws.{flushed, flushed_some}
-use Rattle.lightning_cli.proofs.TakeFaults.{at_memory, at_sink, stands_written, some_written}
+use Rattle.lightning_cli.proofs.OutLaws.{appends_nothing, appends_then, bytes_stay, bytes_then, err_as, err_match, failed_then, out_failed, out_kept, unfailed_itself, unfailed_then}
+use Rattle.lightning_cli.proofs.RunLaws.{flushed, front_of_bytes, run_front, some_more, some_written, stands_at, to_some}
+use Rattle.lightning_cli.specs.Serving.{OutOver}
+use Rattle.lightning_cli.specs.Turns.{take_status}
+use Rattle.lightning_cli.specs.declared.server.TakeFault.TheVariants as faults
 use Rattle.lightning_cli.proofs.server.Server.take.Goals as goal
 
 pub loop-byte-init : goal.loop-byte-init
 loop-byte-init g c = record {
-  known = c.requires.known;
+  fed = c.requires.fed;
   disk = refl;
-  feed = goes_itself _ _ _;
-  out = out_goes _ _;
-  unfailed = (refl, refl);
-  stands = λ f h f0 n0 s0 before written old new s.
-      ([], appends_nothing _, stands_written (sym (append-nil written)) (stands_at before _ (sym (append-nil before)) (same_stands (g.F.Feed.told c.args.feed.now) old new s)));
+  feed = goes_itself _;
+  out = bytes_stay _;
+  unfailed = unfailed_itself _;
+  stands = λ m before written s. ([], appends_nothing _, stands_at before _ (sym (append-nil before)) (sym (append-nil written)) s);
 }
 
 pub loop-byte-preserved : goal.loop-byte-preserved
 loop-byte-preserved g c =
     let i = c.loop-byte.invariant in
     let b = c.in_ok-take_byte.ensures in
-    let w = c.in_ok-flush_full.ensures in
+    let w = c.in_ok-flush_ended.ensures in
     record {
-      known = subst (λ r. length (state_of r).streams ≤ g.F.Feed.known c.take_byte.new.feed) (sym w.rest.0) b.known;
-      disk = b.disk ∙ i.disk;
-      feed = goes_then _ _ _ _ _ _ _ _ _ i.feed b.feed;
-      out = out_goes_then _ _ _ _ _ _ i.out (record { stays = w.stays; later = w.cause.later });
-      unfailed = (w.cause.kept ∙ i.unfailed.0, w.first_fault ∙ i.unfailed.1);
-      stands = λ f h f0 n0 s0 before written old new s.
-          let mid = told_on _ _ f i.feed.stays old in
-          let p = i.stands f mid.0 f0 n0 s0 before written old mid.1 s in
-          let t = b.ok mid.0 h f0 n0 s0 _ (written ++ p.0) mid.1 new p.2 in
-          let at = stands_at _ _ (append_assoc before (take c.loop-byte.byte-index c.args.bytes.now) _ ∙ ap (λ x. before ++ x) (sym (take-suc c.args.bytes.now c.loop-byte.byte-index 0 c.loop-byte-test.true) ∙ ap (λ n. take n c.args.bytes.now) (sym (add-one c.loop-byte.byte-index)))) t in
+      fed = subst (λ r. IsFed r (g.F.Feed.state c.take_byte.new.feed)) (sym w.rest.0) b.fed;
+      disk = b.goes.0 ∙ i.disk;
+      feed = goes_then _ _ _ i.feed b.goes.1;
+      out = bytes_then _ _ _ i.out w.goes;
+      unfailed = unfailed_then _ _ _ i.unfailed w.unfailed;
+      stands = λ m before written s.
+          let p = i.stands m before written s in
+          let t = b.taken m _ (written ++ p.0) p.2 in
           let q = w.some in
-          (p.0 ++ q.0, appends_then _ _ _ p.0 q.0 p.1 q.1, stands_written (append_assoc written p.0 q.0) (stands_to (sym w.rest.0) (sym w.rest.1) (flushed_some q.0 _ q.2 at)));
+          let one = append_assoc before (take c.loop-byte.byte-index c.args.bytes.now) _ ∙ ap (λ x. before ++ x) (sym (take-suc c.args.bytes.now c.loop-byte.byte-index 0 c.loop-byte-test.true) ∙ ap (λ n. take n c.args.bytes.now) (sym (add-one c.loop-byte.byte-index))) in
+          (p.0 ++ q.0, appends_then _ _ _ p.0 q.0 p.1 q.1, stands_at _ _ one (append_assoc written p.0 q.0) (flushed _ _ q.0 w.rest.0 w.rest.1 q.2 t));
     }
 
-pub returns-in_err-take_byte-clause-feed : goal.returns-in_err-take_byte-clause-feed
-returns-in_err-take_byte-clause-feed g c = goes_then _ _ _ _ _ _ _ _ _ c.loop-byte.invariant.feed c.in_err-take_byte.ensures.feed
+pub returns-in_err-take_byte-clause-goes : goal.returns-in_err-take_byte-clause-goes
+returns-in_err-take_byte-clause-goes g c =
+    let i = c.loop-byte.invariant in
+    let e = c.in_err-take_byte.ensures.goes in
+    (e.0 ∙ i.disk, goes_then _ _ _ i.feed e.1, i.out)
 
-pub returns-in_err-flush_full-clause-feed : goal.returns-in_err-flush_full-clause-feed
-returns-in_err-flush_full-clause-feed g c = goes_then _ _ _ _ _ _ _ _ _ c.loop-byte.invariant.feed c.in_ok-take_byte.ensures.feed
+pub returns-in_err-flush_ended-clause-goes : goal.returns-in_err-flush_ended-clause-goes
+returns-in_err-flush_ended-clause-goes g c =
+    let i = c.loop-byte.invariant in
+    let e = c.in_ok-take_byte.ensures.goes in
+    (e.0 ∙ i.disk, goes_then _ _ _ i.feed e.1, bytes_then _ _ _ i.out c.in_err-flush_ended.ensures.goes)
+
+pub returns-in_err-flush-clause-goes : goal.returns-in_err-flush-clause-goes
+returns-in_err-flush-clause-goes g c = let i = c.loop-byte.invariant in (i.disk, i.feed, bytes_then _ _ _ i.out c.in_err-flush.ensures.goes)
+
+pub returns-clause-goes : goal.returns-clause-goes
+returns-clause-goes g c = let i = c.loop-byte.invariant in (i.disk, i.feed, bytes_then _ _ _ i.out c.in_ok-flush.ensures.goes)
 
 pub returns-in_err-take_byte-clause-taken : goal.returns-in_err-take_byte-clause-taken
-returns-in_err-take_byte-clause-taken g c f h f0 n0 s0 before written old new s =
+returns-in_err-take_byte-clause-taken g c m before written s =
     let i = c.loop-byte.invariant in
-    let e = c.in_err-take_byte.ensures.feed in
-    let mid = told_on _ _ f i.feed.stays old in
-    let p = i.stands f mid.0 f0 n0 s0 before written old mid.1 s in
-    (p.0, p.1, at_memory _ _ c.from_residual.result c.from_residual.ensures.1 (has_run_some h _ _ (front_of_bytes before c.args.bytes.now _) (told_grew _ _ mid.0 h mid.1 new e.grows) e.later p.2))
+    let p = i.stands m before written s in
+    let t = c.in_err-take_byte.ensures.taken m _ (written ++ p.0) p.2 in
+    let one = append_assoc before (take c.loop-byte.byte-index c.args.bytes.now) _ ∙ ap (λ x. before ++ x) (sym (take-suc c.args.bytes.now c.loop-byte.byte-index 0 c.loop-byte-test.true) ∙ ap (λ n. take n c.args.bytes.now) (sym (add-one c.loop-byte.byte-index))) in
+    (p.0, p.1, err_match _ c.from_residual.result _ c.from_residual.ensures.1 (some_more (before ++ c.args.bytes.now) (subst (λ x. IsFront x (before ++ c.args.bytes.now)) (sym one) (front_of_bytes before c.args.bytes.now (c.loop-byte.byte-index + 1))) t))
 
-pub returns-in_err-flush_full-clause-taken : goal.returns-in_err-flush_full-clause-taken
-returns-in_err-flush_full-clause-taken g c f h f0 n0 s0 before written old new s =
+pub returns-in_err-flush_ended-clause-taken : goal.returns-in_err-flush_ended-clause-taken
+returns-in_err-flush_ended-clause-taken g c m before written s =
     let i = c.loop-byte.invariant in
-    let b = c.in_ok-take_byte.ensures in
-    let mid = told_on _ _ f i.feed.stays old in
-    let p = i.stands f mid.0 f0 n0 s0 before written old mid.1 s in
-    let t = b.ok mid.0 h f0 n0 s0 _ (written ++ p.0) mid.1 new p.2 in
-    let at = stands_at _ _ (append_assoc before (take c.loop-byte.byte-index c.args.bytes.now) _ ∙ ap (λ x. before ++ x) (sym (take-suc c.args.bytes.now c.loop-byte.byte-index 0 c.loop-byte-test.true) ∙ ap (λ n. take n c.args.bytes.now) (sym (add-one c.loop-byte.byte-index)))) t in
-    let q = c.in_err-flush_full.ensures.front in
-    (p.0 ++ q.0, appends_then _ _ _ p.0 q.0 p.1 q.2, at_sink _ _ c.from_residual-in_err-flush_full.result c.from_residual-in_err-flush_full.ensures.1 (some_written (append_assoc written p.0 q.0) (has_run_front h _ q.0 (front_of_bytes before c.args.bytes.now (c.loop-byte.byte-index + 1)) q.1 (grows_itself h) at)))
+    let p = i.stands m before written s in
+    let t = c.in_ok-take_byte.ensures.taken m _ (written ++ p.0) p.2 in
+    let one = append_assoc before (take c.loop-byte.byte-index c.args.bytes.now) _ ∙ ap (λ x. before ++ x) (sym (take-suc c.args.bytes.now c.loop-byte.byte-index 0 c.loop-byte-test.true) ∙ ap (λ n. take n c.args.bytes.now) (sym (add-one c.loop-byte.byte-index))) in
+    let q = c.in_err-flush_ended.ensures.front in
+    let at = stands_at _ _ one refl t in (
+      p.0 ++ q.0,
+      appends_then _ _ _ p.0 q.0 p.1 q.2,
+      err_match _ c.from_residual-in_err-flush_ended.result _ c.from_residual-in_err-flush_ended.ensures.1
+          (some_written (append_assoc written p.0 q.0) (to_some _ (before ++ c.args.bytes.now) (front_of_bytes before c.args.bytes.now (c.loop-byte.byte-index + 1)) (run_front q.0 q.1 at.run))),
+    )
 
 pub returns-in_err-flush-clause-taken : goal.returns-in_err-flush-clause-taken
-returns-in_err-flush-clause-taken g c f h f0 n0 s0 before written old new s =
-    let i = c.loop-byte.invariant in
-    let p = i.stands f h f0 n0 s0 before written old new s in
-    let q = c.in_err-flush.ensures.front in
-    (p.0 ++ q.0, appends_then _ _ _ p.0 q.0 p.1 q.2, at_sink _ _ c.from_residual-in_err-flush.result c.from_residual-in_err-flush.ensures.1 (some_written (append_assoc written p.0 q.0) (has_run_front h _ q.0 (front_of_bytes before c.args.bytes.now c.loop-byte.byte-index) q.1 (grows_itself h) p.2)))
+returns-in_err-flush-clause-taken g c m before written s =
+    let p = c.loop-byte.invariant.stands m before written s in
+    let q = c.in_err-flush.ensures.front in (
+      p.0 ++ q.0,
+      appends_then _ _ _ p.0 q.0 p.1 q.2,
+      err_match _ c.from_residual-in_err-flush.result _ c.from_residual-in_err-flush.ensures.1
+          (some_written (append_assoc written p.0 q.0) (to_some _ (before ++ c.args.bytes.now) (front_of_bytes before c.args.bytes.now c.loop-byte.byte-index) (run_front q.0 q.1 p.2.run))),
+    )
 
 pub returns-clause-taken : goal.returns-clause-taken
-returns-clause-taken g c f h f0 n0 s0 before written old new s =
-    let i = c.loop-byte.invariant in
+returns-clause-taken g c m before written s =
     let w = c.in_ok-flush.ensures in
-    let p = i.stands f h f0 n0 s0 before written old new s in
+    let p = c.loop-byte.invariant.stands m before written s in
     let replies = c.loop-byte.self.replies.items in
-    let all = stands_at _ _ (ap (λ x. before ++ x) (take_all c.loop-byte.byte-index c.args.bytes.now c.loop-byte-test.false)) p.2 in
-    (p.0 ++ replies, appends_then _ _ _ p.0 replies p.1 w.all.0, stands_written (append_assoc written p.0 replies) (stands_to (sym w.rest.0) (sym w.rest.1) (flushed [] refl all)))
+    let all = ap (λ x. before ++ x) (take_all c.loop-byte.byte-index c.args.bytes.now c.loop-byte-test.false) in (
+      p.0 ++ replies,
+      appends_then _ _ _ p.0 replies p.1 w.all.0,
+      stands_at _ _ all (append_assoc written p.0 replies) (flushed _ _ replies w.rest.0 w.rest.1 (sym (append-nil replies) ∙ ap (λ z. replies ++ z) (sym w.all.1)) p.2),
+    )
+
+pub returns-clause-unfailed : goal.returns-clause-unfailed
+returns-clause-unfailed g c = unfailed_then _ _ _ c.loop-byte.invariant.unfailed c.in_ok-flush.ensures.unfailed
+
+pub returns-in_err-take_byte-clause-over : goal.returns-in_err-take_byte-clause-over
+returns-in_err-take_byte-clause-over g c =
+    let K = g.K.Sink in
+    err_as (λ e. OutOver (K.state c.args.out.now) (K.state c.loop-byte.out) (take_status e)) c.from_residual.result faults.Memory c.from_residual.ensures.1
+    (out_kept _ _ 10 (λ e. absurd (omega (arith, e))) c.loop-byte.invariant.unfailed)
+
+pub returns-in_err-flush_ended-clause-over : goal.returns-in_err-flush_ended-clause-over
+returns-in_err-flush_ended-clause-over g c =
+    let K = g.K.Sink in
+    err_as (λ e. OutOver (K.state c.args.out.now) (K.state c.flush_ended.new.out) (take_status e)) c.from_residual-in_err-flush_ended.result faults.Sink c.from_residual-in_err-flush_ended.ensures.1
+    (out_failed _ _ 4 refl (failed_then _ _ _ c.loop-byte.invariant.unfailed c.in_err-flush_ended.ensures.failed))
+
+pub returns-in_err-flush-clause-over : goal.returns-in_err-flush-clause-over
+returns-in_err-flush-clause-over g c =
+    let K = g.K.Sink in
+    err_as (λ e. OutOver (K.state c.args.out.now) (K.state c.flush.new.out) (take_status e)) c.from_residual-in_err-flush.result faults.Sink c.from_residual-in_err-flush.ensures.1
+    (out_failed _ _ 4 refl (failed_then _ _ _ c.loop-byte.invariant.unfailed c.in_err-flush.ensures.failed))

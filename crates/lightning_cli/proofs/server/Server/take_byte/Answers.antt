@@ -1,31 +1,36 @@
-use Rattle.std.proofs.Common.{◌∙◌, ne_eqb, arith}
+use Rattle.std.proofs.Common.{[], ◌∷◌, ◌∙◌, ne_eqb, arith, refl}
 use Rattle.lightning_cli.specs.Serving.{open_line}
 use Rattle.lt_pump.proofs.FeedLaws.{goes_itself}
-use Rattle.lightning_cli.proofs.RunLaws.{ended_stands, goes_stands, kept_full, kept_more, same_stands}
+use Rattle.lightning_cli.proofs.OutLaws.{err_match}
+use Rattle.lightning_cli.proofs.RunLaws.{ended_some, ended_stands, goes_stands, kept_full, kept_more, run_to, to_some}
 use Rattle.lightning_cli.proofs.server.Server.take_byte.Goals as goal
 
-pub returns-then-byte-eq-LINE_FEED-clause-ok : goal.returns-then-byte-eq-LINE_FEED-clause-ok
-returns-then-byte-eq-LINE_FEED-clause-ok g c f h f0 n0 s0 before written old new s =
-    ended_stands before c.clear.new.self.items c.args.byte c.if-byte-eq-LINE_FEED.true
-    (λ lines line kept has. c.in_ok-answer.ensures.ok f h f0 n0 s0 lines written line old new kept has) c.clear.ensures.items s
+pub returns-in_err-answer-clause-taken : goal.returns-in_err-answer-clause-taken
+returns-in_err-answer-clause-taken g c m before written s =
+    err_match _ c.from_residual.result _ c.from_residual.ensures.1 (ended_some before c.args.byte c.if-byte-eq-LINE_FEED.true (c.in_err-answer.ensures.answered m _ written (open_line before) s.line s.run))
 
-pub returns-in_err-push-clause-feed : goal.returns-in_err-push-clause-feed
-returns-in_err-push-clause-feed g c = goes_itself _ _ _
+pub returns-then-byte-eq-LINE_FEED-clause-taken : goal.returns-then-byte-eq-LINE_FEED-clause-taken
+returns-then-byte-eq-LINE_FEED-clause-taken g c m before written s =
+    ended_stands before c.args.byte _ c.if-byte-eq-LINE_FEED.true (c.in_ok-answer.ensures.answered m _ written (open_line before) s.line s.run) c.clear.ensures.items
 
-pub returns-in_ok-push-clause-feed : goal.returns-in_ok-push-clause-feed
-returns-in_ok-push-clause-feed g c = goes_itself _ _ _
+pub returns-in_err-push-clause-taken : goal.returns-in_err-push-clause-taken
+returns-in_err-push-clause-taken g c m before written s = err_match _ c.from_residual-in_err-push.result _ c.from_residual-in_err-push.ensures.1 (to_some before _ (c.args.byte ∷ [], refl) (run_to s.run))
 
-pub returns-else-len-le-MAX_LINE-clause-feed : goal.returns-else-len-le-MAX_LINE-clause-feed
-returns-else-len-le-MAX_LINE-clause-feed g c = goes_itself _ _ _
+pub returns-in_ok-push-clause-taken : goal.returns-in_ok-push-clause-taken
+returns-in_ok-push-clause-taken g c m before written s =
+    goes_stands before c.args.byte c.args.self.now _ (ne_eqb c.args.byte 10 c.if-byte-eq-LINE_FEED.false) refl refl
+    (λ e. c.in_ok-push.ensures.items ∙ kept_more (open_line before) c.args.byte c.args.self.now.line.items e (omega (arith, c.len.ensures, c.if-len-le-MAX_LINE.true))) s
 
-pub returns-in_ok-push-clause-ok : goal.returns-in_ok-push-clause-ok
-returns-in_ok-push-clause-ok g c f h f0 n0 s0 before written old new s =
-    goes_stands before c.push.new.self.items c.args.byte (ne_eqb c.args.byte 10 c.if-byte-eq-LINE_FEED.false)
-    (λ e. c.in_ok-push.ensures.items ∙ kept_more (open_line before) c.args.byte c.args.self.now.line.items e (omega (arith, c.len.ensures, c.if-len-le-MAX_LINE.true)))
-    (same_stands (g.F.Feed.told c.args.feed.now) old new s)
+pub returns-else-len-le-MAX_LINE-clause-taken : goal.returns-else-len-le-MAX_LINE-clause-taken
+returns-else-len-le-MAX_LINE-clause-taken g c m before written s =
+    goes_stands before c.args.byte c.args.self.now _ (ne_eqb c.args.byte 10 c.if-byte-eq-LINE_FEED.false) refl refl
+    (λ e. kept_full (open_line before) c.args.byte c.args.self.now.line.items e (omega (arith, c.len.ensures, c.if-len-le-MAX_LINE.false))) s
 
-pub returns-else-len-le-MAX_LINE-clause-ok : goal.returns-else-len-le-MAX_LINE-clause-ok
-returns-else-len-le-MAX_LINE-clause-ok g c f h f0 n0 s0 before written old new s =
-    goes_stands before c.args.self.now.line.items c.args.byte (ne_eqb c.args.byte 10 c.if-byte-eq-LINE_FEED.false)
-    (λ e. kept_full (open_line before) c.args.byte c.args.self.now.line.items e (omega (arith, c.len.ensures, c.if-len-le-MAX_LINE.false)))
-    (same_stands (g.F.Feed.told c.args.feed.now) old new s)
+pub returns-in_err-push-clause-goes : goal.returns-in_err-push-clause-goes
+returns-in_err-push-clause-goes g c = (refl, goes_itself _)
+
+pub returns-in_ok-push-clause-goes : goal.returns-in_ok-push-clause-goes
+returns-in_ok-push-clause-goes g c = (refl, goes_itself _)
+
+pub returns-else-len-le-MAX_LINE-clause-goes : goal.returns-else-len-le-MAX_LINE-clause-goes
+returns-else-len-le-MAX_LINE-clause-goes g c = (refl, goes_itself _)

@@ -1,8 +1,8 @@
-use Rattle.std.proofs.Common.{[], ap, length, map, ◌++◌, ◌∙◌, ◌∷◌}
+use Rattle.std.proofs.Common.{[], ap, length, map, refl, ◌++◌, ◌∙◌, ◌∷◌}
 use Rattle.lt_pending.specs.Held.{held_in}
 use Rattle.lt_pump.specs.Pumps.{streams_of}
 use Rattle.lt_engine.specs.Settling.{part_of_entry}
-use Rattle.lt_engine.proofs.StartLaws.{has_started, none_behind, one_part, start_belongs}
+use Rattle.lt_engine.proofs.StartLaws.{has_started, none_behind, one_part}
 use Rattle.lt_engine.proofs.replica.Replica.start.Goals as goal
 
 pub invariant_of-result : goal.invariant_of-result
@@ -19,10 +19,5 @@ pub returns-clause-started : goal.returns-clause-started
 returns-clause-started g c =
     let p = c.settle.ensures.parts ∙ ap (map part_of_entry) c.in_ok-map.ensures in
     let items = c.in_ok-push.ensures.items ∙ ap (λ xs. xs ++ c.new.result ∷ []) c.new-parts.ensures.items in
-    has_started _ _ c.settle.new.map (streams_of c.in_ok-pump.pump) _ c.new-2.ensures (ap (map held_in) items ∙ ap (λ x. x ∷ []) c.new.ensures) p c.in_ok-pump.ensures.attached
-
-pub returns-clause-belongs : goal.returns-clause-belongs
-returns-clause-belongs g c =
-    let p = c.settle.ensures.parts ∙ ap (map part_of_entry) c.in_ok-map.ensures in
-    let items = c.in_ok-push.ensures.items ∙ ap (λ xs. xs ++ c.new.result ∷ []) c.new-parts.ensures.items in
-    start_belongs _ _ c.settle.new.map (streams_of c.in_ok-pump.pump) _ c.new-2.ensures (ap (map held_in) items ∙ ap (λ x. x ∷ []) c.new.ensures) (g.met.F.Feed.short c.attach.new.feed) p c.in_ok-pump.ensures.attached
+    has_started (g.D.Disk.state c.args.disk.now) (g.F.Feed.state c.args.feed.now) (g.F.Feed.state c.attach.new.feed) _ _ c.settle.new.map (streams_of c.in_ok-pump.pump) _ refl refl c.in_ok-pump.ensures.known c.new-2.ensures
+    (ap (map held_in) items ∙ ap (λ x. x ∷ []) c.new.ensures) p c.in_ok-pump.ensures.faults (g.met.F.Feed.short c.attach.new.feed) c.in_ok-pump.ensures.attached

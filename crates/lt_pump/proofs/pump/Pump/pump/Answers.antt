@@ -8,7 +8,7 @@ use Rattle.lt_pump.proofs.OthersLaws.{all_stay, others_stay}
 use Rattle.lt_pump.proofs.pump.Pump.pump.Goals as goal
 
 pub returns-in_default-clause-feed : goal.returns-in_default-clause-feed
-returns-in_default-clause-feed g c = goes_itself _ _ _
+returns-in_default-clause-feed g c = goes_itself _
 
 pub run-requires-clause-stream : goal.run-requires-clause-stream
 run-requires-clause-stream g c = numbered_here c.args.stream c.args.self.now.positions.items c.in-Some.position.now c.args.self.now.streams (within c.args.self.now.positions c.args.stream (c.in-Some.ensures.variant.0 refl)) c.in-Some.ensures.value
@@ -38,7 +38,7 @@ invariant_of-self-in-Err-1 g c = record {
 
 pub returns-in-Ok-clause-pumped : goal.returns-in-Ok-clause-pumped
 returns-in-Ok-clause-pumped g c =
-    has_pumped (g.F.Feed.told c.run.new.feed) c.args.cat.now c.args.stream c.args.n (map view_subscription c.args.subs.now) c.args.self.now.positions.items c.in-Some.position.now c.run.new.self (g.V.Deliver.held c.args.to.now) (g.V.Deliver.held c.run.new.to)
+    has_pumped (g.F.Feed.state c.run.new.feed).told c.args.cat.now c.args.stream c.args.n (map view_subscription c.args.subs.now) c.args.self.now.positions.items c.in-Some.position.now c.run.new.self (g.V.Deliver.held c.args.to.now) (g.V.Deliver.held c.run.new.to)
     (record { records = c.in-Ok.records; offset = c.offset.result; checkpoint = c.checkpoint.result; stop = c.in-Ok.stop }) (within c.args.self.now.positions c.args.stream (c.in-Some.ensures.variant.0 refl)) c.in-Some.ensures.value c.in-Ok.ensures.ran c.offset.ensures c.checkpoint.ensures
 
 pub returns-in-Ok-clause-behind : goal.returns-in-Ok-clause-behind
@@ -46,7 +46,7 @@ returns-in-Ok-clause-behind g c = behind_then c.args.stream c.args.self.now.posi
 
 pub returns-in-Err-Feed-clause-some : goal.returns-in-Err-Feed-clause-some
 returns-in-Err-Feed-clause-some g c known =
-    has_pumped_some (g.F.Feed.told c.run.new.feed) c.args.cat.now c.args.stream c.args.n (map view_subscription c.args.subs.now) c.args.self.now.positions.items c.in-Some.position.now c.run.new.self (g.V.Deliver.held c.args.to.now) (g.V.Deliver.held c.run.new.to)
+    has_pumped_some (g.F.Feed.state c.run.new.feed).told c.args.cat.now c.args.stream c.args.n (map view_subscription c.args.subs.now) c.args.self.now.positions.items c.in-Some.position.now c.run.new.self (g.V.Deliver.held c.args.to.now) (g.V.Deliver.held c.run.new.to)
     (within c.args.self.now.positions c.args.stream (c.in-Some.ensures.variant.0 refl)) c.in-Some.ensures.value c.in-Err-Feed.ensures.some
 
 pub returns-in-Err-Feed-clause-behind : goal.returns-in-Err-Feed-clause-behind
@@ -54,35 +54,35 @@ returns-in-Err-Feed-clause-behind g c = behind_then c.args.stream c.args.self.no
 
 pub returns-in-Err-Memory-clause-some : goal.returns-in-Err-Memory-clause-some
 returns-in-Err-Memory-clause-some g c known =
-    has_pumped_some (g.F.Feed.told c.run.new.feed) c.args.cat.now c.args.stream c.args.n (map view_subscription c.args.subs.now) c.args.self.now.positions.items c.in-Some.position.now c.run.new.self (g.V.Deliver.held c.args.to.now) (g.V.Deliver.held c.run.new.to)
+    has_pumped_some (g.F.Feed.state c.run.new.feed).told c.args.cat.now c.args.stream c.args.n (map view_subscription c.args.subs.now) c.args.self.now.positions.items c.in-Some.position.now c.run.new.self (g.V.Deliver.held c.args.to.now) (g.V.Deliver.held c.run.new.to)
     (within c.args.self.now.positions c.args.stream (c.in-Some.ensures.variant.0 refl)) c.in-Some.ensures.value c.in-Err-Memory.ensures.some
 
 pub returns-in-Err-Memory-clause-behind : goal.returns-in-Err-Memory-clause-behind
 returns-in-Err-Memory-clause-behind g c = behind_then c.args.stream c.args.self.now.positions.items c.in-Some.position.now c.run.new.self (g.V.Deliver.held c.run.new.to) (within c.args.self.now.positions c.args.stream (c.in-Some.ensures.variant.0 refl)) c.in-Some.ensures.value c.run.ensures.behind
 
 pub returns-in-Ok-clause-others : goal.returns-in-Ok-clause-others
-returns-in-Ok-clause-others g c = others_stay (g.F.Feed.told c.run.new.feed) c.args.cat.now (map view_subscription c.args.subs.now) c.args.stream c.args.self.now.positions.items c.args.self.now.lows c.in-Some.position.now c.run.new.self (g.V.Deliver.held c.args.to.now) (g.V.Deliver.held c.run.new.to)
+returns-in-Ok-clause-others g c = others_stay (g.F.Feed.state c.run.new.feed).told c.args.cat.now (map view_subscription c.args.subs.now) c.args.stream c.args.self.now.positions.items c.args.self.now.lows c.in-Some.position.now c.run.new.self (g.V.Deliver.held c.args.to.now) (g.V.Deliver.held c.run.new.to)
     (within c.args.self.now.positions c.args.stream (c.in-Some.ensures.variant.0 refl)) c.in-Some.ensures.value c.args.self.now.tiles c.args.self.now.ranges c.in-Ok.ensures.ran.took
 
 pub returns-in-Ok-clause-all : goal.returns-in-Ok-clause-all
 returns-in-Ok-clause-all g c = all_stay c.args.stream c.args.self.now.positions.items c.run.new.self (g.V.Deliver.held c.args.to.now) (g.V.Deliver.held c.run.new.to)
-    (others_stay (g.F.Feed.told c.run.new.feed) c.args.cat.now (map view_subscription c.args.subs.now) c.args.stream c.args.self.now.positions.items c.args.self.now.lows c.in-Some.position.now c.run.new.self (g.V.Deliver.held c.args.to.now) (g.V.Deliver.held c.run.new.to)
+    (others_stay (g.F.Feed.state c.run.new.feed).told c.args.cat.now (map view_subscription c.args.subs.now) c.args.stream c.args.self.now.positions.items c.args.self.now.lows c.in-Some.position.now c.run.new.self (g.V.Deliver.held c.args.to.now) (g.V.Deliver.held c.run.new.to)
     (within c.args.self.now.positions c.args.stream (c.in-Some.ensures.variant.0 refl)) c.in-Some.ensures.value c.args.self.now.tiles c.args.self.now.ranges c.in-Ok.ensures.ran.took) c.run.ensures.behind
 
 pub returns-in-Err-Feed-clause-others : goal.returns-in-Err-Feed-clause-others
-returns-in-Err-Feed-clause-others g c = others_stay (g.F.Feed.told c.run.new.feed) c.args.cat.now (map view_subscription c.args.subs.now) c.args.stream c.args.self.now.positions.items c.args.self.now.lows c.in-Some.position.now c.run.new.self (g.V.Deliver.held c.args.to.now) (g.V.Deliver.held c.run.new.to)
+returns-in-Err-Feed-clause-others g c = others_stay (g.F.Feed.state c.run.new.feed).told c.args.cat.now (map view_subscription c.args.subs.now) c.args.stream c.args.self.now.positions.items c.args.self.now.lows c.in-Some.position.now c.run.new.self (g.V.Deliver.held c.args.to.now) (g.V.Deliver.held c.run.new.to)
     (within c.args.self.now.positions c.args.stream (c.in-Some.ensures.variant.0 refl)) c.in-Some.ensures.value c.args.self.now.tiles c.args.self.now.ranges c.in-Err-Feed.ensures.some.took
 
 pub returns-in-Err-Feed-clause-all : goal.returns-in-Err-Feed-clause-all
 returns-in-Err-Feed-clause-all g c = all_stay c.args.stream c.args.self.now.positions.items c.run.new.self (g.V.Deliver.held c.args.to.now) (g.V.Deliver.held c.run.new.to)
-    (others_stay (g.F.Feed.told c.run.new.feed) c.args.cat.now (map view_subscription c.args.subs.now) c.args.stream c.args.self.now.positions.items c.args.self.now.lows c.in-Some.position.now c.run.new.self (g.V.Deliver.held c.args.to.now) (g.V.Deliver.held c.run.new.to)
+    (others_stay (g.F.Feed.state c.run.new.feed).told c.args.cat.now (map view_subscription c.args.subs.now) c.args.stream c.args.self.now.positions.items c.args.self.now.lows c.in-Some.position.now c.run.new.self (g.V.Deliver.held c.args.to.now) (g.V.Deliver.held c.run.new.to)
     (within c.args.self.now.positions c.args.stream (c.in-Some.ensures.variant.0 refl)) c.in-Some.ensures.value c.args.self.now.tiles c.args.self.now.ranges c.in-Err-Feed.ensures.some.took) c.run.ensures.behind
 
 pub returns-in-Err-Memory-clause-others : goal.returns-in-Err-Memory-clause-others
-returns-in-Err-Memory-clause-others g c = others_stay (g.F.Feed.told c.run.new.feed) c.args.cat.now (map view_subscription c.args.subs.now) c.args.stream c.args.self.now.positions.items c.args.self.now.lows c.in-Some.position.now c.run.new.self (g.V.Deliver.held c.args.to.now) (g.V.Deliver.held c.run.new.to)
+returns-in-Err-Memory-clause-others g c = others_stay (g.F.Feed.state c.run.new.feed).told c.args.cat.now (map view_subscription c.args.subs.now) c.args.stream c.args.self.now.positions.items c.args.self.now.lows c.in-Some.position.now c.run.new.self (g.V.Deliver.held c.args.to.now) (g.V.Deliver.held c.run.new.to)
     (within c.args.self.now.positions c.args.stream (c.in-Some.ensures.variant.0 refl)) c.in-Some.ensures.value c.args.self.now.tiles c.args.self.now.ranges c.in-Err-Memory.ensures.some.took
 
 pub returns-in-Err-Memory-clause-all : goal.returns-in-Err-Memory-clause-all
 returns-in-Err-Memory-clause-all g c = all_stay c.args.stream c.args.self.now.positions.items c.run.new.self (g.V.Deliver.held c.args.to.now) (g.V.Deliver.held c.run.new.to)
-    (others_stay (g.F.Feed.told c.run.new.feed) c.args.cat.now (map view_subscription c.args.subs.now) c.args.stream c.args.self.now.positions.items c.args.self.now.lows c.in-Some.position.now c.run.new.self (g.V.Deliver.held c.args.to.now) (g.V.Deliver.held c.run.new.to)
+    (others_stay (g.F.Feed.state c.run.new.feed).told c.args.cat.now (map view_subscription c.args.subs.now) c.args.stream c.args.self.now.positions.items c.args.self.now.lows c.in-Some.position.now c.run.new.self (g.V.Deliver.held c.args.to.now) (g.V.Deliver.held c.run.new.to)
     (within c.args.self.now.positions c.args.stream (c.in-Some.ensures.variant.0 refl)) c.in-Some.ensures.value c.args.self.now.tiles c.args.self.now.ranges c.in-Err-Memory.ensures.some.took) c.run.ensures.behind

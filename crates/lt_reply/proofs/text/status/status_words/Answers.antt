@@ -11,4 +11,4 @@ pub returns : goal.returns
 returns c =
     let parts = c.in_ok-parts.ensures ∙ ap (λ (ps : List PartLine). part_lines 0 (view_parts ps)) c.as_slice.ensures in
     let streams = c.in_ok-streams.ensures ∙ ap (λ (ss : List StreamLine). flat_map stream_line (view_streams ss)) c.as_slice-2.ensures in
-    status_lines c.args.minimum (view_parts c.args.parts.now) (view_streams c.args.streams.now) _ _ _ parts streams c.in_ok-format.ensures.ok
+    status_lines c.args.minimum (view_parts c.args.parts.now) (view_streams c.args.streams.now) c.args.job _ _ _ _ parts streams c.job_word-job.ensures c.in_ok-format.ensures.ok
