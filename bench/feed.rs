@@ -15,7 +15,7 @@ const TABLE: u32 = 7;
 const CHECKPOINT_EVERY: u64 = 100;
 const REGIONS: [&str; 6] = ["ap", "eu", "jp", "sa", "us", "za"];
 const WORDS: [&str; 16] = [
-    "blue", "box", "call", "cash", "door", "early", "field", "gate", "glass", "green", "moon", "north", "paper",
+    "blue", "box", "call", "cash", "door", "early", "field", "gate", "glass", "green", "moon", "north", "plate",
     "ring", "stone", "wood",
 ];
 

@@ -150,6 +150,6 @@ if python=$(command -v python3); then
   fresh
   (cd "$folder" && "$python" "$root/tests/edge_blocks.py" "$P") || status=1
 else
-  echo "edge: no python3: inputs and outputs that would block are not tried"
+  say "no python3: inputs and outputs that would block are not tried"
 fi
 exit $status

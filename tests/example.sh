@@ -14,5 +14,5 @@ for pair in "script stdin" "replies stdout"; do
   set -- $pair
   cmp "examples/one_stream/$1" "crates/lightning_cli/$2" || exit 1
 done
-python=$(command -v python3) || { echo "no python3: the example's bytes are not compared with docs/formats.md"; exit 0; }
+python=$(command -v python3) || { echo "no python3: the example's bytes are not compared with docs/formats.md"; exit 1; }
 "$python" tests/example_bytes.py

@@ -17,7 +17,7 @@ done
 for file in $(grep -oE '`[A-Z][A-Za-z]*\.antt`' docs/definitions.md | tr -d '`' | sort -u); do
   compgen -G "crates/*/specs/$file" > /dev/null || compgen -G "crates/*/proofs/$file" > /dev/null || say "docs/definitions.md names $file, which is not there"
 done
-for crate in lt_codecs lt_laws lt_version_laws lt_steps lt_image_laws; do
+for crate in lt_codecs lt_store_codecs lt_theorems lt_version_laws lt_steps lt_image_laws; do
   for law in $(sed -n 's/^ *ensures { \([A-Za-z]*\).*/\1/p' "crates/$crate/src/lib.rt"); do
     grep -qE "^\|.*\`$law[\`.]" docs/definitions.md || say "docs/definitions.md has no row for $law of $crate"
   done

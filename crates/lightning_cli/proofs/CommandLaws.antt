@@ -2,22 +2,25 @@
 use Rattle.std.proofs.Common.{Bool, List, [], ap, append-nil, arith, inl, inr, refl, subst, sym, false, true, ℕ, ◌++◌, ◌∙◌, ◌≡◌}
 use Rattle.std.proofs.lemmas.Bool.{false≢true}
 use Rattle.std.specs.Prelude.{Err, IfErr, IfOk, IfSome, IsTrue, None, Ok, OnOk, Option, Result, Some, is_none, option_and_then, option_map, unwrap_or, ◌&&◌, ◌⊎◌}
-use Rattle.lt_model.specs.Disk.{DiskState, Rose}
-use Rattle.lt_model.specs.Fair.{AreShort, Feed}
-use Rattle.lt_model.specs.InMemory.{asks_all, is_all_rows, is_built, memory_causes, on_memory}
-use Rattle.lt_model.specs.Kind.{Kind}
-use Rattle.lt_model.specs.Log.{Change}
-use Rattle.lt_model.specs.Machine.{Answer, Does, Scans, State, StepBy, cat_of, refused, refuses}
-use Rattle.lt_model.specs.Outside.{FeedGoes, FeedState, GivenUpTo, RowSinkState, caused_by, counts_in, texts_of, world_of}
-use Rattle.lt_model.specs.Query.{Query}
-use Rattle.lt_model.specs.Reply as model
-use Rattle.lt_model.specs.Reply.{out_fault, out_of_memory, picked_kinds, refusal_text, row_text}
-use Rattle.lt_model.specs.Run.{Answers, Counts, FaultsIn, Moment, Shows, answer_text, asked_kinds, is_fault, may_end_in, result_text, rows_text}
-use Rattle.lt_model.specs.Schema.{Catalogue, IsCatalogue, Registered, SchemaVersion, Table, registered, schema_version, table_named, whole_version}
-use Rattle.lt_model.specs.Script.{Command, do_compact, do_deltas, do_flush, do_job_begin, do_job_drop, do_job_finish, do_job_step, do_page, do_pump, do_reopen, do_retain, do_retire, do_scan, do_schema, do_split, do_status}
-use Rattle.lt_model.specs.Sound.{Session, source_of}
-use Rattle.lt_model.specs.Step.{Served, Serves, Stepped}
-use Rattle.lt_model.specs.Value.{Value}
+use Rattle.lt_world.specs.Disk.{DiskState, Rose}
+use Rattle.lt_world.specs.Feed.{AreShort, Feed}
+use Rattle.lt_words.specs.Lines.{asks_all, is_all_rows, is_built}
+use Rattle.lt_machine.specs.InMemory.{memory_causes, on_memory}
+use Rattle.lt_terms.specs.Kind.{Kind}
+use Rattle.lt_terms.specs.Log.{Change}
+use Rattle.lt_machine.specs.Machine.{Answer, Does, Scans, State, StepBy, cat_of, refused, refuses}
+use Rattle.lt_world.specs.Feed.{FeedGoes, FeedState}
+use Rattle.lt_world.specs.RowSink.{RowSinkState, texts_of}
+use Rattle.lt_machine.specs.Outside.{GivenUpTo, caused_by, counts_in, world_of}
+use Rattle.lt_tables.specs.Query.{Query}
+use Rattle.lt_words.specs.Reply as model
+use Rattle.lt_words.specs.Reply.{out_fault, out_of_memory, picked_kinds, refusal_text, row_text}
+use Rattle.lt_machine.specs.Run.{Answers, Counts, FaultsIn, Moment, Shows, answer_text, asked_kinds, is_fault, may_end_in, result_text, rows_text}
+use Rattle.lt_tables.specs.Schema.{Catalogue, IsCatalogue, Registered, SchemaVersion, Table, registered, schema_version, table_named, whole_version}
+use Rattle.lt_tables.specs.Query.{Command, do_compact, do_deltas, do_flush, do_job_begin, do_job_drop, do_job_finish, do_job_step, do_page, do_pump, do_reopen, do_retain, do_retire, do_scan, do_schema, do_split, do_status}
+use Rattle.lt_machine.specs.Sound.{Session, source_of}
+use Rattle.lt_machine.specs.Step.{Served, Serves, Stepped}
+use Rattle.lt_terms.specs.Value.{Value}
 use Rattle.lt_command.specs.View.{view_command}
 use Rattle.lt_command.specs.declared.command.Command as code
 use Rattle.lt_command.specs.declared.command.Command.TheVariants as commands
@@ -25,7 +28,7 @@ use Rattle.lt_command.specs.declared.command.Query as queries
 use Rattle.lt_engine.specs.State.{StandsFor}
 use Rattle.lt_engine.specs.declared.replica.Replica.{Replica}
 use Rattle.lt_laws.proofs.AnswerLaws.{named_is_numbered}
-use Rattle.lt_laws.proofs.FrontLaws.{grows_itself}
+use Rattle.lt_lemmas.proofs.FrontLaws.{grows_itself}
 use Rattle.lt_reply.proofs.RowKinds.{all_picked}
 use Rattle.lt_reply.specs.Rows.{row_kinds}
 use Rattle.lightning_cli.specs.Commands.{HasAnswered, IsNow, StandsIn, version_named, version_read}

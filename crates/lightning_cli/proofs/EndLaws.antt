@@ -2,9 +2,9 @@
 use Rattle.std.proofs.Common.{ℕ, List, refl, arith, inl, inr, subst, sym, ◌∙◌, ◌≡◌, true}
 use Rattle.std.proofs.lemmas.Bool.{false≢true}
 use Rattle.std.specs.Prelude.{Bool, Err, IsTrue, MatchResult, Ok, Result, false, is_err, ◌&&◌, ◌⊎◌}
-use Rattle.lt_model.specs.Disk.{Rose}
-use Rattle.lt_model.specs.Outside.{BytesState, FailsAt}
-use Rattle.lt_model.specs.Program.{IsCut}
+use Rattle.lt_world.specs.Disk.{Rose}
+use Rattle.lt_world.specs.Object.{BytesState, FailsAt}
+use Rattle.lt_machine.specs.Program.{IsCut}
 use Rattle.lightning_cli.specs.Serving.{Finishes, ScriptOver, Unfailed}
 use Rattle.lightning_cli.specs.Turns.{take_status}
 use Rattle.lightning_cli.specs.declared.server.TakeFault.{TakeFault}

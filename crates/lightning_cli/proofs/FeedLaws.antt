@@ -1,12 +1,13 @@
 -- What a feed exposes, from one call to the next, and what a session is for a longer feed.
 use Rattle.std.proofs.Common.{◌≡◌, true, false, refl, subst, ap}
 use Rattle.std.specs.Prelude.{is_some, IfSome, None, Option, Some}
-use Rattle.lt_model.specs.Disk.{DiskState}
-use Rattle.lt_model.specs.Fair.{AreShort, Feed, Grows}
-use Rattle.lt_model.specs.InMemory.{on_memory}
-use Rattle.lt_model.specs.Outside.{FeedGrows, StaysTold}
-use Rattle.lt_model.specs.Sound.{Session}
-use Rattle.lt_model.specs.Step.{Serves}
+use Rattle.lt_world.specs.Disk.{DiskState}
+use Rattle.lt_world.specs.Feed.{AreShort, Feed, Grows}
+use Rattle.lt_machine.specs.InMemory.{on_memory}
+use Rattle.lt_world.specs.Feed.{FeedGrows}
+use Rattle.lt_world.specs.Object.{StaysTold}
+use Rattle.lt_machine.specs.Sound.{Session}
+use Rattle.lt_machine.specs.Step.{Serves}
 use Rattle.lt_laws.proofs.GrowthLaws.{growth_keeps}
 use Rattle.lt_steps.proofs.GrowsLaws.{memory_grows}
 

@@ -2,9 +2,9 @@
 use Rattle.std.proofs.lemmas.List.{take-take}
 use Rattle.std.proofs.Common.{inl, inr, take-append-drop, false, subst, true, ◌≡◌, ℕ, ◌+◌, ◌<◌, ◌^◌, ◌≤◌, length, length-append, List, [], ◌∷◌, ◌++◌, take, drop, refl, sym, ap, ◌∙◌, append_assoc, append-nil, arith}
 use Rattle.std.proofs.lemmas.Fmt.{decimal_digit}
-use Rattle.lt_model.specs.Outside.{BytesGo, BytesState, FailsAt, StaysTold}
-use Rattle.lt_model.specs.Reply.{text_line}
-use Rattle.lt_model.specs.Run.{max_script, script_fault_text, too_long_text}
+use Rattle.lt_world.specs.Object.{BytesGo, BytesState, FailsAt, StaysTold}
+use Rattle.lt_words.specs.Reply.{text_line}
+use Rattle.lt_machine.specs.Run.{max_script, script_fault_text, too_long_text}
 use Rattle.std.specs.Prelude.{Err, IfErr, IfSome, MatchResult, codes, None, Ok, Option, Result, Some}
 use Rattle.std.specs.Result.{IsErrAnd}
 use Rattle.std.specs.Io.KnownBytes.{Appends, Consumes, IsAtEnd, Keeps}

@@ -1,8 +1,8 @@
 -- Lines of a script that comes byte by byte: those that were ended, and the open one.
 use Rattle.std.proofs.Common.{◌≡◌, ℕ, ◌-◌, ◌<◌, Bool, true, false, List, [], ◌∷◌, ◌++◌, length, take, refl, sym, ap, ◌∙◌, arith}
 use Rattle.std.specs.Prelude.{cond, suc, ◌==◌}
-use Rattle.lt_model.specs.Script.{pieces, script_lines, with_byte}
-use Rattle.lt_model.specs.Run.{lines_ended}
+use Rattle.lt_words.specs.Script.{pieces, script_lines, with_byte}
+use Rattle.lt_machine.specs.Run.{lines_ended}
 use Rattle.lightning_cli.specs.Serving.{last_of_all, open_line}
 
 -- ---- the last piece, and those before it

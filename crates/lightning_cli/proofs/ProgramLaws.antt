@@ -3,15 +3,19 @@ use Rattle.std.proofs.lemmas.Fmt.{decimal_digit}
 use Rattle.std.proofs.Common.{◌≡◌, ◌≤◌, ◌<◌, ℕ, length, List, [], ◌∷◌, ◌++◌, refl, subst, sym, ap, ◌∙◌, append-nil, append_assoc, arith, false, inl, inr, true, zero}
 use Rattle.std.proofs.lemmas.Bool.{false≢true}
 use Rattle.std.specs.Prelude.{IfSome, IsTrue, None, Option, Some, codes, decimal, ⊤, ◌⊎◌}
-use Rattle.lt_model.specs.Disk.{DiskGoes, DiskState, LeftOnly}
-use Rattle.lt_model.specs.Fair.{Feed}
-use Rattle.lt_model.specs.InMemory.{BeginsFresh, FeedUnfit, in_memory, is_memory_status, on_memory, only_run}
-use Rattle.lt_model.specs.Outside.{BytesState, FeedGoes, FeedState, LeavesNow, counts_in}
-use Rattle.lt_model.specs.Program.{Did, Endures, Ends, EndsFor, IsFront, IsIdle, NamesFault, Outside, RunEnds, StandFrom, Stops, Tells, Told, Trace, counts_of, is_start_status, lacks, moments_of, not_opened, outside_of, ran, rules_of, stops, stops_cut}
-use Rattle.lt_model.specs.Reply.{text_line}
-use Rattle.lt_model.specs.Run.{Counts, HasBegun, IsOver, Moment, StartFault, Words, last_moment, max_script, no_words_known, start_damaged, start_disk, start_feed, start_mismatch, start_status, start_text, no_store, store_there, usage_text, word_run}
-use Rattle.lt_model.specs.Sound.{Session}
-use Rattle.lt_model.specs.Step.{NotStarted, Serves, Started}
+use Rattle.lt_world.specs.Disk.{DiskGoes, DiskState, LeftOnly}
+use Rattle.lt_world.specs.Feed.{Feed}
+use Rattle.lt_machine.specs.InMemory.{BeginsFresh, FeedUnfit, in_memory, is_memory_status, on_memory, only_run}
+use Rattle.lt_world.specs.Object.{BytesState}
+use Rattle.lt_world.specs.Feed.{FeedGoes, FeedState}
+use Rattle.lt_world.specs.Disk.{LeavesNow}
+use Rattle.lt_machine.specs.Outside.{counts_in}
+use Rattle.lt_world.specs.Object.{IsFront}
+use Rattle.lt_machine.specs.Program.{Did, Endures, Ends, EndsFor, IsIdle, NamesFault, Outside, RunEnds, StandFrom, Stops, Tells, Told, Trace, counts_of, is_start_status, lacks, moments_of, not_opened, outside_of, ran, rules_of, stops, stops_cut}
+use Rattle.lt_words.specs.Reply.{text_line}
+use Rattle.lt_machine.specs.Run.{Counts, HasBegun, IsOver, Moment, StartFault, Words, last_moment, max_script, no_words_known, start_damaged, start_disk, start_feed, start_mismatch, start_status, start_text, no_store, store_there, usage_text, word_run}
+use Rattle.lt_machine.specs.Sound.{Session}
+use Rattle.lt_machine.specs.Step.{NotStarted, Serves, Started}
 use Rattle.lt_engine.specs.State.{StandsFor, view_start}
 use Rattle.lt_engine.specs.declared.refusal.StartRefusal.{StartRefusal}
 use Rattle.lt_engine.specs.declared.replica.Replica.{Replica}

@@ -5,10 +5,11 @@ use Rattle.std.specs.Prelude.{IsTrue, None, Option, Some, if◌then◌else◌, i
 use Rattle.std.specs.Option.{option_map_or}
 use Rattle.std.specs.Str.{is_utf8}
 use Rattle.serde_json.specs.Read.{read}
-use Rattle.lt_model.specs.Schema.{when}
-use Rattle.lt_model.specs.InMemory.{asks_all, has_options, is_all_rows, is_built, line_read, only_built}
-use Rattle.lt_model.specs.Outside.{is_command}
-use Rattle.lt_model.specs.Script.{Command, Line, Mode, bad_line, behind_words, command_in, command_of_words, count_word, do_compact, do_deltas, do_flush, do_job_begin, do_job_drop, do_job_finish, do_job_step, do_page, do_pump, do_reopen, do_retain, do_retire, do_scan, do_schema, do_split, do_status, first_byte, job_words, large_word, line_of, literals_in, max_line, mode_words, no_words, one_number, options_in, page_words, plain_query, scan_words, skipped, small_word, spells_command, split_words, table_word, two_words, with_mode, words}
+use Rattle.lt_tables.specs.Schema.{when}
+use Rattle.lt_words.specs.Lines.{asks_all, has_options, is_all_rows, is_built, line_read, only_built}
+use Rattle.lt_machine.specs.Outside.{is_command}
+use Rattle.lt_tables.specs.Query.{Command, Mode, do_compact, do_deltas, do_flush, do_job_begin, do_job_drop, do_job_finish, do_job_step, do_page, do_pump, do_reopen, do_retain, do_retire, do_scan, do_schema, do_split, do_status}
+use Rattle.lt_words.specs.Script.{Line, bad_line, behind_words, command_in, command_of_words, count_word, first_byte, job_words, large_word, line_of, literals_in, max_line, mode_words, no_words, one_number, options_in, page_words, plain_query, scan_words, skipped, small_word, spells_command, split_words, table_word, two_words, with_mode, words}
 
 -- a pump takes at least one record
 abbrev takes_some : Command → Bool

@@ -4,15 +4,15 @@ use Rattle.std.proofs.lemmas.Bool.{false≢true}
 use Rattle.std.specs.Prelude.{None, Option, Some, codes, is_none, is_some, length, nat_le, nat_lt, not, option_and_then, option_map, slice_get, ◌&&◌, ◌==◌}
 use Rattle.std.specs.List.{AllByRecursion, list_any}
 use Rattle.std.specs.Option.{option_map_or, option_or}
-use Rattle.lt_model.specs.InMemory.{is_built}
-use Rattle.lt_model.specs.Machine.{State, added_text, adds_delta, asks_for_job, cat_of, columns_fault, compaction_asked, count_fault, edge_of, error_of, first_below, is_broken, is_worn, is_write, last_version_retired, literals_fault, not_done_yet, of_query, of_split, part_asked, part_misfit, query_interval, query_of, refused, registered_named, retain_fault, schema_refused, split_key, table_asked, unknown_in, unknown_stream, version_asked}
-use Rattle.lt_model.specs.Key.{max_key}
-use Rattle.lt_model.specs.Query.{Literal, Query}
+use Rattle.lt_words.specs.Lines.{is_built}
+use Rattle.lt_machine.specs.Machine.{State, added_text, adds_delta, asks_for_job, cat_of, columns_fault, compaction_asked, count_fault, edge_of, error_of, first_below, is_broken, is_worn, is_write, last_version_retired, literals_fault, not_done_yet, of_query, of_split, part_asked, part_misfit, query_interval, query_of, refused, registered_named, retain_fault, schema_refused, split_key, table_asked, unknown_in, unknown_stream, version_asked}
+use Rattle.lt_terms.specs.Key.{max_key}
+use Rattle.lt_tables.specs.Query.{Literal, Query}
 use Rattle.lt_laws.proofs.StepLaws.{refusals}
-use Rattle.lt_model.specs.Reply.{Refusal, at_edge, bad_column, bad_schema, is_last_version, job_open, key_too_long, needs_reopen, no_job, no_partition, no_stream, no_such_delta, no_such_table, no_such_version, not_safe, too_many_deltas, too_many_parts, too_old, version_retired, worn, wrong_literal}
-use Rattle.lt_model.specs.Run.{is_fault}
-use Rattle.lt_model.specs.Schema.{Column, Table, first_of, registered, table_named, when}
-use Rattle.lt_model.specs.Script.{Command, do_compact, do_deltas, do_flush, do_job_begin, do_job_drop, do_job_finish, do_job_step, do_page, do_pump, do_reopen, do_retain, do_retire, do_scan, do_schema, do_split, do_status}
+use Rattle.lt_words.specs.Reply.{Refusal, at_edge, bad_column, bad_schema, is_last_version, job_open, key_too_long, needs_reopen, no_job, no_partition, no_stream, no_such_delta, no_such_table, no_such_version, not_safe, too_many_deltas, too_many_parts, too_old, version_retired, worn, wrong_literal}
+use Rattle.lt_machine.specs.Run.{is_fault}
+use Rattle.lt_tables.specs.Schema.{Column, Table, first_of, registered, table_named, when}
+use Rattle.lt_tables.specs.Query.{Command, do_compact, do_deltas, do_flush, do_job_begin, do_job_drop, do_job_finish, do_job_step, do_page, do_pump, do_reopen, do_retain, do_retire, do_scan, do_schema, do_split, do_status}
 
 abbrev NoFault : Option Refusal → Type 0
 NoFault o = (r : Refusal) → o ≡ Some r → is_fault r ≡ false

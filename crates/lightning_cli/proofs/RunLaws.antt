@@ -2,14 +2,16 @@
 use Rattle.std.proofs.lemmas.List.{length-take, length-take-le, take-append-le}
 use Rattle.std.proofs.Common.{drop, inl, inr, take-append-drop, length-append, ltb-false, ltb-true, take_all, ◌≡◌, ℕ, ◌+◌, ◌<◌, ◌≤◌, Bool, true, false, List, [], ◌∷◌, ◌++◌, length, take, refl, sym, ap, ◌∙◌, subst, arith, append_assoc, append-nil}
 use Rattle.std.specs.Prelude.{Result, nat_lt, ◌==◌, ◌⊎◌, min}
-use Rattle.lt_model.specs.Disk.{DiskState}
-use Rattle.lt_model.specs.InMemory.{line_read, on_memory}
-use Rattle.lt_model.specs.Outside.{FeedState}
-use Rattle.lt_model.specs.Program.{IsFront}
-use Rattle.lt_model.specs.Reply.{bad_line_text}
-use Rattle.lt_model.specs.Run.{LineRuns, LineRunsAs, Moment, Rules, Runs, last_moment, lines_ended, run_text}
-use Rattle.lt_model.specs.Script.{Command, bad_line, max_line, skipped, spells_command}
-use Rattle.lt_laws.proofs.FrontLaws.{grows_itself}
+use Rattle.lt_world.specs.Disk.{DiskState}
+use Rattle.lt_words.specs.Lines.{line_read}
+use Rattle.lt_machine.specs.InMemory.{on_memory}
+use Rattle.lt_world.specs.Feed.{FeedState}
+use Rattle.lt_world.specs.Object.{IsFront}
+use Rattle.lt_words.specs.Reply.{bad_line_text}
+use Rattle.lt_machine.specs.Run.{LineRuns, LineRunsAs, Moment, Rules, Runs, last_moment, lines_ended, run_text}
+use Rattle.lt_tables.specs.Query.{Command}
+use Rattle.lt_words.specs.Script.{bad_line, max_line, skipped, spells_command}
+use Rattle.lt_lemmas.proofs.FrontLaws.{grows_itself}
 use Rattle.lt_script.specs.Lines.{kept_of}
 use Rattle.lt_engine.specs.declared.replica.Replica.{Replica}
 use Rattle.lightning_cli.specs.Commands.{HasAnswered, IsNow, StandsIn, run_rules}

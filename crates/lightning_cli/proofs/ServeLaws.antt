@@ -3,13 +3,15 @@ use Rattle.std.proofs.lemmas.List.{length-append, take_at}
 use Rattle.std.proofs.Common.{◌≡◌, ℕ, ◌+◌, ◌<◌, ◌≤◌, List, [], ◌∷◌, ◌++◌, length, take, refl, sym, ap, ◌∙◌, subst, arith, append_assoc, append-nil, ap₂, inl, inr}
 use Rattle.std.specs.Prelude.{Some, ◌⊎◌}
 use Rattle.std.specs.Io.KnownBytes.{Appends, Consumes, IsAtEnd, Keeps}
-use Rattle.lt_model.specs.Disk.{DiskState, Rose}
-use Rattle.lt_model.specs.Fair.{Grows}
-use Rattle.lt_model.specs.Outside.{BytesGo, BytesState, FeedGoes, FeedState, StaysTold}
-use Rattle.lt_model.specs.Program.{IsCut, IsFront, Outside, RunEnds, Tells, Told, Trace, all_answered, counts_of, ended_early, in_last_line, in_replies, in_script_fault, in_too_long, outside_of, script_failed, script_too_long}
-use Rattle.lt_model.specs.Run.{AreLater, Counts, IsOver, Moment, Runs, last_moment, lines_ended, max_script, run_text, script_fault_text, too_long_text}
-use Rattle.lt_model.specs.Script.{script_lines}
-use Rattle.lt_laws.proofs.FrontLaws.{grows_itself}
+use Rattle.lt_world.specs.Disk.{DiskState, Rose}
+use Rattle.lt_world.specs.Feed.{Grows}
+use Rattle.lt_world.specs.Object.{BytesGo, BytesState, StaysTold}
+use Rattle.lt_world.specs.Feed.{FeedGoes, FeedState}
+use Rattle.lt_world.specs.Object.{IsFront}
+use Rattle.lt_machine.specs.Program.{IsCut, Outside, RunEnds, Tells, Told, Trace, all_answered, counts_of, ended_early, in_last_line, in_replies, in_script_fault, in_too_long, outside_of, script_failed, script_too_long}
+use Rattle.lt_machine.specs.Run.{AreLater, Counts, IsOver, Moment, Runs, last_moment, lines_ended, max_script, run_text, script_fault_text, too_long_text}
+use Rattle.lt_words.specs.Script.{script_lines}
+use Rattle.lt_lemmas.proofs.FrontLaws.{grows_itself}
 use Rattle.lt_engine.specs.declared.replica.Replica.{Replica}
 use Rattle.lightning_cli.specs.Commands.{IsNow, StandsIn, run_rules}
 use Rattle.lightning_cli.specs.Serving.{Finishes, HasRun, HasRunSome, HasRunTo, HasServed, IsServing, Stands, open_line}

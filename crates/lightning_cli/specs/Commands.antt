@@ -1,15 +1,16 @@
 -- What a command leads to, and the version that its rows are read by.
 use Rattle.std.specs.Prelude.{IfOk, List, Option, Result, Some, option_and_then, option_map, ℕ, ◌≡◌}
-use Rattle.lt_model.specs.Disk.{DiskState}
-use Rattle.lt_model.specs.Fair.{Grows}
-use Rattle.lt_model.specs.InMemory.{in_memory, on_memory}
-use Rattle.lt_model.specs.Machine.{query_of}
-use Rattle.lt_model.specs.Outside.{FeedState, counts_in}
-use Rattle.lt_model.specs.Program.{rules_of}
-use Rattle.lt_model.specs.Run.{CommandRuns, Moment, Rules}
-use Rattle.lt_model.specs.Schema.{Catalogue, SchemaVersion, registered, table_named, whole_version}
-use Rattle.lt_model.specs.Script.{Command}
-use Rattle.lt_model.specs.Step.{Serves}
+use Rattle.lt_world.specs.Disk.{DiskState}
+use Rattle.lt_world.specs.Feed.{Grows}
+use Rattle.lt_machine.specs.InMemory.{in_memory, on_memory}
+use Rattle.lt_machine.specs.Machine.{query_of}
+use Rattle.lt_world.specs.Feed.{FeedState}
+use Rattle.lt_machine.specs.Outside.{counts_in}
+use Rattle.lt_machine.specs.Program.{rules_of}
+use Rattle.lt_machine.specs.Run.{CommandRuns, Moment, Rules}
+use Rattle.lt_tables.specs.Schema.{Catalogue, SchemaVersion, registered, table_named, whole_version}
+use Rattle.lt_tables.specs.Query.{Command}
+use Rattle.lt_machine.specs.Step.{Serves}
 use Rattle.lt_engine.specs.State.{StandsFor}
 use Rattle.lt_engine.specs.declared.replica.Replica.{Replica}
 

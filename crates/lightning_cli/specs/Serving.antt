@@ -1,11 +1,13 @@
 -- How far a run of a script has come.
 use Rattle.std.specs.Prelude.{IfSome, List, MatchResult, Option, Result, Some, [], length, ℕ, ◌+◌, ◌++◌, ◌∷◌, ◌≡◌, ◌≢◌, ◌⊎◌}
 use Rattle.std.specs.Io.KnownBytes.{Appends}
-use Rattle.lt_model.specs.Disk.{DiskState, Rose}
-use Rattle.lt_model.specs.Outside.{BytesState, FailsAt, FeedState}
-use Rattle.lt_model.specs.Program.{IsFront, Outside, RunEnds, Tells, Told, Trace}
-use Rattle.lt_model.specs.Run.{IsOver, Moment, Runs, last_moment, lines_ended, run_text}
-use Rattle.lt_model.specs.Script.{script_lines}
+use Rattle.lt_world.specs.Disk.{DiskState, Rose}
+use Rattle.lt_world.specs.Object.{BytesState, FailsAt}
+use Rattle.lt_world.specs.Feed.{FeedState}
+use Rattle.lt_world.specs.Object.{IsFront}
+use Rattle.lt_machine.specs.Program.{Outside, RunEnds, Tells, Told, Trace}
+use Rattle.lt_machine.specs.Run.{IsOver, Moment, Runs, last_moment, lines_ended, run_text}
+use Rattle.lt_words.specs.Script.{script_lines}
 use Rattle.lt_script.specs.Lines.{kept_of}
 use Rattle.lt_engine.specs.declared.replica.Replica.{Replica}
 use Rattle.lightning_cli.specs.Commands.{IsNow, StandsIn, run_rules}

@@ -1,9 +1,10 @@
 -- How a turn of a run ends, what taking a piece of the script does, and how a call ends that begins no session.
 use Rattle.std.specs.Prelude.{Bool, IsTrue, List, MatchResult, None, Option, Result, Some, false, true, ℕ, ⊤, ◌++◌, ◌≡◌, ◌⊎◌}
 use Rattle.std.specs.Io.KnownBytes.{Appends}
-use Rattle.lt_model.specs.Disk.{DiskState}
-use Rattle.lt_model.specs.Outside.{BytesState, FeedState}
-use Rattle.lt_model.specs.Run.{Moment, StartFault, start_damaged, start_mismatch, start_status, start_text}
+use Rattle.lt_world.specs.Disk.{DiskState}
+use Rattle.lt_world.specs.Object.{BytesState}
+use Rattle.lt_world.specs.Feed.{FeedState}
+use Rattle.lt_machine.specs.Run.{Moment, StartFault, start_damaged, start_mismatch, start_status, start_text}
 use Rattle.lightning_cli.specs.Serving.{Finishes, HasRunSome, Stands}
 use Rattle.lightning_cli.specs.declared.server.Server.{Server}
 use Rattle.lightning_cli.specs.declared.server.TakeFault.{TakeFault}

@@ -4,11 +4,12 @@ ghost use Rattle.std.specs.Prelude.{◌≡◌, ◌++◌, ◌&&◌, None, Some, I
 ghost use Rattle.lt_command.specs.View.{view_command};
 ghost use Rattle.lt_engine.specs.State.{IsFed, StandsFor};
 ghost use Rattle.lt_engine.specs.Steps.{answer_of};
-ghost use Rattle.lt_model.specs.InMemory.{is_built};
-ghost use Rattle.lt_model.specs.Machine.{cat_of};
-ghost use Rattle.lt_model.specs.Outside.{FeedGoes, is_command};
-ghost use Rattle.lt_model.specs.Run.{Moment, result_text};
-ghost use Rattle.lt_model.specs.Sound.{Session};
+ghost use Rattle.lt_words.specs.Lines.{is_built};
+ghost use Rattle.lt_machine.specs.Machine.{cat_of};
+ghost use Rattle.lt_world.specs.Feed.{FeedGoes};
+ghost use Rattle.lt_machine.specs.Outside.{is_command};
+ghost use Rattle.lt_machine.specs.Run.{Moment, result_text};
+ghost use Rattle.lt_machine.specs.Sound.{Session};
 ghost use Rattle.lt_reply.specs.View.{IsSpoken};
 ghost use Rattle.lt_schema.specs.View.{view_version};
 ghost use Rattle.lightning_cli.specs.Commands.{HasAnswered, IsNow, StandsIn, version_named, version_read};

@@ -2,7 +2,7 @@
 
 ghost use Rattle.std.specs.Prelude.{OnErr, OnOk};
 ghost use Rattle.std.specs.Io.KnownBytes.{Appends};
-ghost use Rattle.lt_model.specs.Outside.{BytesGo};
+ghost use Rattle.lt_world.specs.Object.{BytesGo};
 ghost use Rattle.lightning_cli.specs.Serving.{AppendsFront, Failed, Finishes, Unfailed};
 
 use lt_io::{Sink, WriteFault};

@@ -1,10 +1,10 @@
 //! The program's top call: what it does by its words, and the status that it ends with.
 
 ghost use Rattle.std.specs.Prelude.{IfOk, ◌≡◌, if◌then◌else◌, map, string_bytes};
-ghost use Rattle.lt_model.specs.InMemory.{in_memory, only_run};
-ghost use Rattle.lt_model.specs.Outside.{BytesGo};
-ghost use Rattle.lt_model.specs.Program.{Did, EndsFor, OutsideGoes, Tells, Told, outside_of};
-ghost use Rattle.lt_model.specs.Run.{no_words_known, start_damaged, start_mismatch, start_text, word_run};
+ghost use Rattle.lt_machine.specs.InMemory.{in_memory, only_run};
+ghost use Rattle.lt_world.specs.Object.{BytesGo};
+ghost use Rattle.lt_machine.specs.Program.{Did, EndsFor, OutsideGoes, Tells, Told, outside_of};
+ghost use Rattle.lt_machine.specs.Run.{no_words_known, start_damaged, start_mismatch, start_text, word_run};
 ghost use Rattle.lt_engine.specs.State.{view_start};
 ghost use Rattle.lightning_cli.specs.Turns.{HasStopped};
 

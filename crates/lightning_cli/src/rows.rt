@@ -36,7 +36,7 @@ impl RowTexts {
 
 impl RowSink for RowTexts {
     ghost use Rattle.std.specs.Prelude.{None, Some};
-    ghost use Rattle.lt_model.specs.Reply.{row_text};
+    ghost use Rattle.lt_words.specs.Reply.{row_text};
     ghost use Rattle.lt_reply.specs.Rows.{row_kinds};
     ghost use Rattle.lt_schema.specs.View.{view_version};
 

@@ -5,9 +5,10 @@
 
 ghost use Rattle.std.specs.Prelude.{IfSome, ◌≡◌, ◌+◌, ◌<◌, ◌≤◌, ◌^◌, ◌++◌, ◌⊎◌, [], ℕ, List, Some, length};
 ghost use Rattle.std.specs.Io.KnownBytes.{Consumes};
-ghost use Rattle.lt_model.specs.Outside.{BytesGo, BytesState, FeedGoes};
-ghost use Rattle.lt_model.specs.Program.{Tells, Told, outside_of};
-ghost use Rattle.lt_model.specs.Run.{Moment, max_script};
+ghost use Rattle.lt_world.specs.Object.{BytesGo, BytesState};
+ghost use Rattle.lt_world.specs.Feed.{FeedGoes};
+ghost use Rattle.lt_machine.specs.Program.{Tells, Told, outside_of};
+ghost use Rattle.lt_machine.specs.Run.{Moment, max_script};
 ghost use Rattle.lt_engine.specs.State.{IsFed};
 ghost use Rattle.lightning_cli.specs.Commands.{StandsIn};
 ghost use Rattle.lightning_cli.specs.Serving.{HasServed, IsRunStatus, IsServing, IsTaken, OutOver, ScriptOver, Unfailed};

@@ -5,8 +5,9 @@
 
 ghost use Rattle.std.specs.Prelude.{◌≡◌, ◌++◌, ◌∷◌, [], ℕ, IfErr, List, MatchResult, OnErr, OnOk};
 ghost use Rattle.std.specs.Io.KnownBytes.{Appends};
-ghost use Rattle.lt_model.specs.Outside.{BytesGo, FeedGoes};
-ghost use Rattle.lt_model.specs.Run.{Moment};
+ghost use Rattle.lt_world.specs.Object.{BytesGo};
+ghost use Rattle.lt_world.specs.Feed.{FeedGoes};
+ghost use Rattle.lt_machine.specs.Run.{Moment};
 ghost use Rattle.lt_engine.specs.State.{IsFed};
 ghost use Rattle.lt_script.specs.Lines.{kept_of};
 ghost use Rattle.lightning_cli.specs.Serving.{AnswersLine, AppendsFront, Failed, HasRun, HasRunSome, OutOver, Stands, Unfailed, WritesSome};

@@ -1,22 +1,22 @@
 -- The laws of a format, and that each way to build one keeps them.
-use Rattle.std.proofs.Common.{◌≡◌, ℕ, ℤ, pos, negsuc, ◌-◌, FitsSigned, zero, suc, ◌+◌, ◌^◌, ◌%◌, ◌<◌, ◌≤◌, Bool, true, false, cond, ltb, leb, eqb, List, [], ◌∷◌, ◌++◌, length, take, drop, Option, Some, None, refl, sym, ap, subst, ◌∙◌, append_assoc, arith, inl, inr}
+use Rattle.std.proofs.Common.{Bool, FitsSigned, List, None, Option, Some, [], ap, append_assoc, arith, cond, drop, eqb, false, inl, inr, leb, length, ltb, negsuc, pos, refl, subst, suc, sym, take, true, zero, ℕ, ℤ, ◌%◌, ◌++◌, ◌+◌, ◌-◌, ◌<◌, ◌^◌, ◌∙◌, ◌∷◌, ◌≡◌, ◌≤◌}
+use Rattle.std.proofs.lemmas.List.{append-nil, drop_at, get_or-drop, get_or-take, get_or_past, length-append, length-take, nil_from_length, take-append-drop, take_at}
+use Rattle.std.proofs.lemmas.Bool.{and_parts, cases_lt, eqb-true, le-leb, le-ltb, leb-true, lt-ltb, ltb-false, ltb-true}
 use Rattle.std.specs.Prelude.{IsTrue, ◌&&◌, ◌↔◌}
-use Rattle.std.specs.List.{flat_map, AllByRecursion}
-use mir.Val.{hbits}
-use Rattle.std.specs.Int.{Width, w8, w16, w32, w64, byte_len, cast_signed, cast_unsigned, from_be_bytes, to_be_bytes}
-use Rattle.std.proofs.lemmas.Bool.{and_parts, cases_lt, ltb-false, ltb-true, lt-ltb, le-ltb, leb-true, le-leb, eqb-true}
-use Rattle.std.proofs.lemmas.List.{take_at, drop_at, take-append-drop, length-append, length-take, get_or-drop, get_or-take, get_or_past, append-nil, nil_from_length}
+use Rattle.std.specs.List.{AllByRecursion, flat_map}
 use Rattle.std.proofs.lemmas.List.Concat.{flat_map-cons}
+use Rattle.std.specs.Int.{Width, byte_len, cast_signed, cast_unsigned, from_be_bytes, to_be_bytes, w16, w32, w64, w8}
 use Rattle.std.proofs.lemmas.Nat.{be_bytes_2, be_bytes_4, be_bytes_8, from_be_bytes-to_be_bytes_2, from_be_bytes-to_be_bytes_4, from_be_bytes-to_be_bytes_8, pow_pos}
+use mir.Val.{hbits}
 use Rattle.std.proofs.lemmas.Int.{of_z-to_z, to_z-of_z}
-use Rattle.std.proofs.Math.Facts.{Fits-of_z, sfits_to_z, Fits-of_lt, Fits-lt-pow}
+use Rattle.std.proofs.Math.Facts.{Fits-lt-pow, Fits-of_lt, Fits-of_z, sfits_to_z}
 use Rattle.std.specs.Str.{bytes_eq, is_utf8}
 use Rattle.std.proofs.lemmas.Slice.Eq.{bytes_eq-Decides}
-use Rattle.lt_model.specs.Value.{fits_32, fits_64}
+use Rattle.lt_terms.specs.Value.{fits_32, fits_64}
+use Rattle.lt_codecs.specs.Codec.{Codec, IsBytes, OptionalLawful, body_of, byte, bytes16, bytes32, bytes_by, counted, empty, i32, i64, literal, mapped, nothing, number, of_parts, on_tag, optional, optional_behind, optional_spell, read_times, signed, sized, stated, tagged, text32, then_by, times, u16, u32, u64, u8, where_true, whole, ◌>>=◌, ◌then◌}
+use Rattle.lt_codecs.specs.CodecLaws.{KeepCodecs, Parts, SaysBehind}
 pub use Rattle.lt_codecs.specs.Codec.{IsCodec, Takes}
 pub use Rattle.lt_codecs.specs.CodecLaws.{IsAgain, IsBehind, IsSigned, IsTagged, IsWide, States, within}
-use Rattle.lt_codecs.specs.CodecLaws.{KeepCodecs, Parts, SaysBehind}
-use Rattle.lt_codecs.specs.Codec.{IsBytes, Codec, signed, i32, byte, of_parts, empty, nothing, literal, then_by, stated, on_tag, tagged, text32, ◌>>=◌, number, ◌then◌, u8, u16, u32, u64, mapped, where_true, read_times, times, counted, i64, bytes_by, bytes16, bytes32, optional, optional_behind, optional_spell, OptionalLawful, whole, sized, body_of}
 
 pub IsBytes-drop : (n : ℕ) (bytes : List ℕ) → IsBytes bytes → IsBytes (drop n bytes)
 IsBytes-drop n bytes h i = rw get_or-drop (h (n + i))

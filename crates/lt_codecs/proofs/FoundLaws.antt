@@ -1,25 +1,24 @@
 -- What stands at the front of bytes: exactly one thing, which stays what it is while the bytes grow.
-use Rattle.std.proofs.Common.{◌≡◌, ℕ, suc, ◌-◌, ◌+◌, ◌^◌, ◌<◌, ◌≤◌, Bool, true, false, cond, leb, ltb, List, [], ◌∷◌, ◌++◌, length, take, drop, Option, Some, None, refl, sym, ap, subst, ◌∙◌, arith, inl, inr, ◌⊎◌}
+use Rattle.std.proofs.Common.{Bool, List, None, Option, Some, [], ap, arith, cond, drop, false, inl, inr, leb, length, ltb, refl, subst, suc, sym, take, true, ℕ, ◌++◌, ◌+◌, ◌-◌, ◌<◌, ◌^◌, ◌∙◌, ◌∷◌, ◌≡◌, ◌≤◌, ◌⊎◌}
+use Rattle.std.proofs.lemmas.List.{drop_at, length-append, length-take, take-append-drop, take-append-le, take_at}
 use Rattle.std.specs.Prelude.{IsTrue}
-use Rattle.std.specs.Int.{w32, from_be_bytes}
-use Rattle.std.proofs.lemmas.Bool.{leb-true, le-leb, leb-false, lt-leb, lt-ltb, ltb-true}
-use Rattle.std.proofs.lemmas.List.{take_at, drop_at, take-append-drop, length-append, length-take, take-append-le}
-use Rattle.lt_model.specs.declared.BadFrame.TheVariants as bad
-use Rattle.lt_model.specs.declared.Format.{Format}
-use Rattle.lt_model.specs.declared.Format.TheVariants as format
-use Rattle.lt_model.specs.Value.{Value}
-use Rattle.lt_model.specs.Log as log
-use Rattle.lt_model.specs.Log.{Found, HasNoValue, IsFound, IsFrame, Item, Opens, batch_item, body, change_item, checkpoint_item, close_item, header_item, is_content, is_item, is_kind, is_log_value, kind_byte, malformed, max_body, partial, spelled, value_bytes, whole}
-use Rattle.lt_codecs.specs.Codec as codec
-use Rattle.lt_codecs.specs.Codec.{Codec, IsBytes, u32}
+use Rattle.std.proofs.lemmas.Bool.{and_from, le-leb, leb-false, leb-true, lt-leb, lt-ltb, ltb-true}
+use Rattle.std.specs.Int.{from_be_bytes, w32}
+use Rattle.lt_terms.specs.declared.Format.{Format}
+use Rattle.lt_terms.specs.Log.{Found, HasNoValue, IsFound, IsFrame, Item, Opens, batch_item, body, change_item, checkpoint_item, close_item, header_item, is_content, is_item, is_kind, kind_byte, malformed, max_body, partial, spelled, value_bytes, whole}
+use Rattle.lt_terms.specs.Value.{Value}
+use Rattle.lt_codecs.specs.Codec.{IsBytes, Takes, u32}
+use Rattle.lt_codecs.proofs.Codecs.{IsBytes-drop, IsBytes-take, some, spell_apart, u32_is, unread, whole_again, whole_takes}
 use Rattle.lt_codecs.specs.LogCodec.{found, found_sized, found_whole, item, item_body, log_value, value}
-use Rattle.lt_codecs.specs.Front.{DecidesWhole, FindsOne, ReadsValue, ReadsWhole, StaysFound}
-use Rattle.lt_codecs.proofs.Codecs.{IsBytes-drop, IsBytes-take, Takes, some, u32_is, spell_apart, unread, whole_again, whole_takes}
-use Rattle.std.proofs.lemmas.Bool.{and_from}
-use Rattle.lt_codecs.proofs.ListFacts.{first, heads, second, tails}
 use Rattle.lt_codecs.proofs.LogTests.{small_limit}
-use Rattle.lt_codecs.proofs.ValueCodecs.{log_value_is}
 use Rattle.lt_codecs.proofs.ItemCodecs.{item_body_is, item_is}
+use Rattle.lt_codecs.proofs.ListFacts.{first, heads, second, tails}
+use Rattle.lt_codecs.specs.Front.{DecidesWhole, FindsOne, ReadsValue, ReadsWhole, StaysFound}
+use Rattle.lt_codecs.proofs.ValueCodecs.{log_value_is}
+use Rattle.lt_terms.specs.Log as log
+use Rattle.lt_terms.specs.declared.Format.TheVariants as format
+use Rattle.lt_terms.specs.declared.BadFrame.TheVariants as bad
+use Rattle.lt_codecs.specs.Codec as codec
 
 -- ---- the front that a codec takes
 

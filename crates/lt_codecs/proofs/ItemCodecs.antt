@@ -1,25 +1,26 @@
 -- The codecs of changes, headers and frames keep the laws, and what they read and spell is the log's grammar.
-use Rattle.std.proofs.Common.{eqb-true, subst, [], flat_map, Option, Some, None, ◌≡◌, ℕ, ◌+◌, ◌%◌, ◌^◌, ◌<◌, Bool, List, ◌∷◌, ◌++◌, length, refl, sym, ap, ◌∙◌, arith, leb-true, le-leb, ltb-true, lt-ltb}
-use Rattle.std.specs.Option.{option_map, option_map_or}
+use Rattle.std.proofs.Common.{Bool, List, None, Option, Some, [], ap, arith, eqb-true, flat_map, le-leb, leb-true, length, lt-ltb, ltb-true, refl, subst, sym, ℕ, ◌%◌, ◌++◌, ◌+◌, ◌<◌, ◌^◌, ◌∙◌, ◌∷◌, ◌≡◌}
 use Rattle.std.proofs.lemmas.Bool.{and_from}
-use Rattle.std.proofs.lemmas.Bool.Decides.{Decides-eqb}
-use Rattle.std.specs.Prelude.{nat_le, IsTrue, nat_lt, ◌&&◌}
+use Rattle.std.specs.Prelude.{IsTrue, nat_le, nat_lt, ◌&&◌}
 use Rattle.std.specs.Str.{is_utf8}
-use Rattle.lt_model.specs.declared.Op.{Op}
-use Rattle.lt_model.specs.declared.Op.TheVariants as ops
-use Rattle.lt_model.specs.declared.Format.{Format}
-use Rattle.lt_model.specs.declared.Format.TheVariants as format
-use Rattle.lt_model.specs.Key.{KeyPart, int_part, text_part, max_key}
-use Rattle.lt_model.specs.Value.{is_number, is_timestamp}
-use Rattle.lt_model.specs.Log as log
-use Rattle.lt_model.specs.Log.{Change, Header, Item, batch_item, body, change_body, change_item, change_key, checkpoint_item, close_item, header_body, header_item, is_change, is_content, is_header, is_item, is_log_part, is_log_value, is_two, kind_byte, log_part, magic, max_body, op_byte, setting_bytes, spelled, value_bytes}
-use Rattle.lt_codecs.specs.Codec as codec
-use Rattle.lt_codecs.specs.Codec.{Codec, IsBytes, OptionalLawful, empty, i64, on_tag, text32, bytes16, bytes32, u8, u16, u32, u64}
-use Rattle.lt_codecs.specs.LogCodec.{ChangeParts, HeaderParts, batch, body_behind, change, change_at, change_of, change_parts, close, fit_together, header, header_of, header_parts, item, item_body, log_value, op, op_behind, origin, only_two, part, part_behind, part_count, parts, settings, table_number, timestamp, value, version_number}
+use Rattle.std.proofs.lemmas.Bool.Decides.{Decides-eqb}
+use Rattle.std.specs.Option.{option_map, option_map_or}
+use Rattle.lt_terms.specs.Key.{KeyPart, int_part, max_key, text_part}
+use Rattle.lt_terms.specs.Log.{Change, Header, Item, batch_item, body, change_body, change_item, change_key, checkpoint_item, close_item, header_body, header_item, is_change, is_content, is_header, is_item, is_log_part, is_log_value, is_two, kind_byte, log_part, magic, max_body, op_byte, setting_bytes, spelled}
+use Rattle.lt_terms.specs.declared.Op.{Op}
+use Rattle.lt_terms.specs.Value.{is_number, is_timestamp}
+use Rattle.lt_terms.specs.declared.Format.{Format}
+use Rattle.lt_codecs.specs.Codec.{IsBytes, IsCodec, Takes, bytes16, bytes32, empty, i64, text32, u16, u32, u64, u8}
+use Rattle.lt_codecs.specs.LogCodec.{ChangeParts, HeaderParts, batch, body_behind, change, change_at, change_of, change_parts, close, fit_together, header, header_of, header_parts, item, item_body, log_value, only_two, op, op_behind, origin, part, part_behind, part_count, parts, settings, table_number, timestamp, value, version_number}
 use Rattle.lt_codecs.proofs.ListFacts.{all_hold, all_pass, first, second}
-use Rattle.lt_codecs.proofs.Codecs.{IsAgain, IsCodec, IsTagged, States, Takes, bytes16_is, counted_is, empty_is, i64_is, literal_is, on_tag_is, on_tag_takes, optional_is, retyped_again, sized_is, stated_is, tagged_is, text32_is, then_by_is, then_is, u32_is, u64_is, u8_is, where_true_is}
-use Rattle.lt_codecs.proofs.LogTests.{batch_is, change_fits, close_first, header_is, is_change_at, is_from, is_origin, is_setting, no_origin, number_below, small_limit}
+use Rattle.lt_codecs.specs.CodecLaws.{IsAgain, IsTagged, States}
+use Rattle.lt_codecs.proofs.Codecs.{bytes16_is, counted_is, empty_is, i64_is, literal_is, on_tag_is, on_tag_takes, optional_is, retyped_again, sized_is, stated_is, tagged_is, text32_is, then_by_is, then_is, u32_is, u64_is, u8_is, where_true_is}
 use Rattle.lt_codecs.proofs.ValueCodecs.{log_value_is, optional_spells, settings_of_is}
+use Rattle.lt_codecs.proofs.LogTests.{batch_is, change_fits, close_first, header_is, is_change_at, is_from, is_origin, is_setting, no_origin, number_below, small_limit}
+use Rattle.lt_terms.specs.declared.Op.TheVariants as ops
+use Rattle.lt_terms.specs.Log as log
+use Rattle.lt_terms.specs.declared.Format.TheVariants as format
+use Rattle.lt_codecs.specs.Codec as codec
 
 -- ---- changes
 

@@ -1,19 +1,19 @@
 -- The order of keys' bytes is the order of their parts, and equal bytes are equal keys.
-use Rattle.std.proofs.Common.{◌≡◌, ℕ, zero, suc, ◌+◌, ◌-◌, ◌*◌, ◌/◌, ◌%◌, ◌^◌, ◌<◌, ◌≤◌, true, List, [], ◌∷◌, ◌++◌, length, ℤ, pos, negsuc, ◌<ℤ◌, refl, sym, ap, ◌∙◌, append_assoc, arith, pow-suc, mul-le-mul_right, suc-mul, mod-lt, append-nil, ltb-true, ltb→lt, leb-true, mod-eq_of_lt, div-one, div-add-mod', add-mul, mul_assoc, mul_comm}
-use Rattle.std.specs.Prelude.{IsTrue, nat_le, flat_map}
-use Rattle.std.specs.Cmp.{ranks, nat_cmp_is, int_ranks}
+use Rattle.std.proofs.Common.{List, [], add-mul, ap, append-nil, append_assoc, arith, div-add-mod', div-one, leb-true, length, ltb-true, ltb→lt, mod-eq_of_lt, mod-lt, mul-le-mul_right, mul_assoc, mul_comm, negsuc, pos, pow-suc, refl, suc, suc-mul, sym, true, zero, ℕ, ℤ, ◌%◌, ◌*◌, ◌++◌, ◌+◌, ◌-◌, ◌/◌, ◌<ℤ◌, ◌<◌, ◌^◌, ◌∙◌, ◌∷◌, ◌≡◌, ◌≤◌}
+use Rattle.std.specs.Cmp.{int_ranks, nat_cmp_is, ranks}
 use Rattle.std.specs.declared.cmp.Ordering.{Ordering}
-use Rattle.std.specs.declared.cmp.Ordering.TheVariants.{Less, Equal, Greater}
-use Rattle.std.specs.Ordering.{nat_cmp, int_cmp, ordering_then, MatchOrdering}
-use Rattle.std.specs.Int.{byte_at, bytes_high_first, to_be_bytes, w32, w64}
+use Rattle.std.specs.declared.cmp.Ordering.TheVariants.{Equal, Greater, Less}
+use Rattle.std.specs.Ordering.{MatchOrdering, int_cmp, nat_cmp, ordering_then}
 use Rattle.std.proofs.lemmas.Nat.{mod-mul-add}
-use Rattle.std.proofs.lemmas.Map.Lookups.{exact_signed, exact_unsigned, exact_bytes}
-use Rattle.lt_model.specs.declared.KeyKind.{KeyKind}
-use Rattle.lt_model.specs.declared.KeyKind.TheVariants as key_kind
-use Rattle.lt_model.specs.Value.{fits_64}
-use Rattle.lt_model.specs.Key.{AreKeysPrefixFree, KeepsOrder, KeyPart, bytes_cmp, escaped, int_part, is_key_of, is_part_of, key_bytes, key_cmp, number_key, part_bytes, part_cmp, text_part}
+use Rattle.std.specs.Int.{byte_at, bytes_high_first, to_be_bytes, w32, w64}
+use Rattle.std.specs.Prelude.{IsTrue, flat_map, nat_le}
+use Rattle.std.proofs.lemmas.Map.Lookups.{exact_bytes, exact_signed, exact_unsigned}
+use Rattle.lt_terms.specs.Key.{AreKeysPrefixFree, KeepsOrder, KeyPart, bytes_cmp, escaped, int_part, is_key_of, is_part_of, key_bytes, key_cmp, number_key, part_bytes, part_cmp, text_part}
+use Rattle.lt_terms.specs.Value.{fits_64}
+use Rattle.lt_terms.specs.declared.KeyKind.{KeyKind}
 use Rattle.lt_codecs.proofs.KeyLemmas.{escaped_cmp, then_assoc}
 use Rattle.lt_codecs.proofs.ListFacts.{first, second}
+use Rattle.lt_terms.specs.declared.KeyKind.TheVariants as key_kind
 
 -- ---- numbers, the greatest byte first
 

@@ -7,13 +7,4 @@ pub mod ValueCodecs
 pub mod ItemCodecs
 pub mod LogLaws
 pub mod FoundLaws
-pub mod IndexCodecs
-pub mod KindCodecs
-pub mod KindLaws
-pub mod SpelledCatalogue
-pub mod ManifestCodecs
-pub mod BundleCodecs
-pub mod BundleLaws
-pub mod StoreLaws
-pub mod ManifestLaws
-pub mod IndexLaws
+pub mod LogCodecs

@@ -1,10 +1,9 @@
 -- Facts about lists, options and tests that proofs here and above need.
 use Rattle.std.proofs.Common.{Bool, List, [], cond, false, refl, true, ◌++◌, ◌∷◌, ◌≡◌}
 use Rattle.std.specs.Prelude.{IsTrue, None, Option, Some, find, flat_map, map, option_map, ⊤, ◌&&◌}
+use Rattle.std.proofs.lemmas.Bool.{and_from, and_parts, or_parts}
 use Rattle.std.specs.List.{AllByRecursion, list_all, list_any}
 use Rattle.std.specs.Option.{option_or}
-use Rattle.std.proofs.lemmas.Bool.{and_from, and_parts, or_parts}
-use Rattle.lt_model.specs.Schema.{first_of, when}
 
 -- ---- two tests, and two lists
 
@@ -95,11 +94,3 @@ or_left (Some a) p h = h
 pub or_right : {A : Type 0} (o p : Option A) → option_or o p ≡ None → p ≡ None
 or_right None p h = h
 or_right (Some a) p h = cc
-
-pub when_none : {A : Type 0} (b : Bool) (a : A) → when b a ≡ None → b ≡ false
-when_none true a h = cc
-when_none false a h = refl
-
-pub all_none : {A : Type 0} (os : List (Option A)) → first_of os ≡ None → AllByRecursion (λ o. o ≡ None) os
-all_none [] e = tt
-all_none (o ∷ os) e = (or_left o (first_of os) e, all_none os (or_right o (first_of os) e))

@@ -1,18 +1,18 @@
 -- What the tests of log values, changes, headers and frames say.
-use Rattle.std.proofs.Common.{eqb-true, [], leb-true, map, Option, Some, None, ◌≡◌, ℕ, ◌+◌, ◌^◌, ◌<◌, Bool, true, false, List, ◌∷◌, length, refl, arith, ltb-true}
-use Rattle.std.specs.Prelude.{if◌then◌else◌, is_some, ◌==◌, nat_le, IsTrue, nat_lt, not, ◌&&◌, ◌||◌}
-use Rattle.lt_model.specs.Value.{Fields, Value, are_fields, field_list, field_value, is_number, is_timestamp, is_value, rises_above, no_fields}
+use Rattle.std.proofs.Common.{Bool, List, None, Option, Some, [], arith, eqb-true, false, leb-true, length, ltb-true, map, refl, true, ℕ, ◌+◌, ◌<◌, ◌^◌, ◌∷◌, ◌≡◌}
+use Rattle.std.specs.Prelude.{IsTrue, if◌then◌else◌, is_some, nat_le, nat_lt, not, ◌&&◌, ◌==◌, ◌||◌}
 use Rattle.std.specs.List.{list_all}
-use Rattle.std.specs.Option.{option_map_or}
-use Rattle.lt_model.specs.declared.Format.{Format}
-use Rattle.lt_model.specs.declared.Format.TheVariants as format
-use Rattle.lt_model.specs.declared.Op.{Op}
-use Rattle.lt_model.specs.declared.Op.TheVariants as ops
-use Rattle.lt_model.specs.Key.{below, max_key}
-use Rattle.lt_model.specs.Log.{Header, batch_item, close_item, fits_high, is_content, is_header, is_two, max_body, same_format, Change, change_key, is_change, is_log_part, is_log_value, op_byte, bit}
-use Rattle.lt_codecs.specs.Codec.{OptionalLawful}
 use Rattle.std.proofs.lemmas.Bool.{and_from, and_parts}
+use Rattle.std.specs.Option.{option_map_or}
+use Rattle.lt_terms.specs.Log.{Change, Header, batch_item, bit, change_key, close_item, fits_high, is_change, is_content, is_header, is_log_part, is_log_value, is_two, max_body, op_byte, same_format}
+use Rattle.lt_terms.specs.Value.{Fields, Value, are_fields, field_list, field_value, is_number, is_timestamp, is_value, no_fields, rises_above}
+use Rattle.lt_terms.specs.declared.Op.{Op}
+use Rattle.lt_terms.specs.Key.{below, max_key}
+use Rattle.lt_terms.specs.declared.Format.{Format}
 use Rattle.lt_codecs.proofs.ListFacts.{first, second}
+use Rattle.lt_codecs.specs.Codec.{OptionalLawful}
+use Rattle.lt_terms.specs.declared.Op.TheVariants as ops
+use Rattle.lt_terms.specs.declared.Format.TheVariants as format
 
 -- ---- values
 

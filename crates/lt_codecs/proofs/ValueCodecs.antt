@@ -1,19 +1,20 @@
 -- The codec of values keeps the laws, and what it reads and spells is the log's grammar.
-use Rattle.std.proofs.Common.{subst, [], flat_map, map, Option, None, Some, ◌≡◌, ℕ, zero, suc, ◌-◌, ◌%◌, ◌^◌, ◌<◌, Bool, true, false, List, ◌∷◌, ◌++◌, length, refl, sym, ap, ◌∙◌, append_assoc, arith, ltb-true, lt-ltb}
-use Rattle.std.specs.Prelude.{◌==◌, IsTrue, nat_lt, ◌&&◌}
-use Rattle.std.specs.List.{AllByRecursion}
-use Rattle.std.specs.Str.{is_utf8}
-use Rattle.lt_model.specs.Value.{Fields, Value, are_fields, bool_value, bytes_value, field_list, field_value, fields_of, int_value, is_number, is_value, no_fields, null_value, rises_above, struct_value, text_value}
-use Rattle.lt_model.specs.Log.{bit, field_bytes, setting_bytes, value_bytes}
-use Rattle.lt_model.specs.Log as log
-use Rattle.lt_codecs.specs.Codec as codec
+use Rattle.std.proofs.Common.{Bool, List, None, Option, Some, [], ap, append_assoc, arith, false, flat_map, length, lt-ltb, ltb-true, map, refl, subst, suc, sym, true, zero, ℕ, ◌%◌, ◌++◌, ◌-◌, ◌<◌, ◌^◌, ◌∙◌, ◌∷◌, ◌≡◌}
+use Rattle.std.specs.Prelude.{IsTrue, nat_lt, ◌&&◌, ◌==◌}
 use Rattle.std.proofs.lemmas.List.Concat.{flat_map-cons}
-use Rattle.lt_codecs.specs.Codec.{Codec, IsBytes, empty, nothing, on_tag, u8, i64, text32, bytes32, u16, u32, u64}
-use Rattle.lt_codecs.specs.LogCodec.{fields, flag, log_value, settings_of, value, value_behind, value_holding}
-use Rattle.lt_codecs.proofs.Codecs.{IsAgain, IsCodec, IsTagged, States, counted_is, empty_is, i64_is, bytes32_is, nothing_is, on_tag_is, retyped_again, stated_is, tagged_is, text32_is, then_is, u16_is, u8_is, where_true_is}
+use Rattle.std.specs.Str.{is_utf8}
 use Rattle.std.proofs.lemmas.Bool.{and_from}
+use Rattle.std.specs.List.{AllByRecursion}
+use Rattle.lt_terms.specs.Log.{bit, field_bytes, setting_bytes, value_bytes}
+use Rattle.lt_terms.specs.Value.{Fields, Value, are_fields, bool_value, bytes_value, field_list, field_value, fields_of, int_value, is_number, is_value, no_fields, null_value, rises_above, struct_value, text_value}
+use Rattle.lt_codecs.specs.Codec.{Codec, IsCodec, bytes32, empty, i64, text32, u16, u32, u64, u8}
+use Rattle.lt_codecs.specs.LogCodec.{fields, flag, log_value, settings_of, value, value_behind, value_holding}
+use Rattle.lt_codecs.specs.CodecLaws.{IsAgain, IsTagged, States}
+use Rattle.lt_codecs.proofs.Codecs.{bytes32_is, counted_is, empty_is, i64_is, nothing_is, on_tag_is, retyped_again, stated_is, tagged_is, text32_is, then_is, u16_is, u8_is, where_true_is}
 use Rattle.lt_codecs.proofs.ListFacts.{first, second}
-use Rattle.lt_codecs.proofs.LogTests.{field_is, few_fields}
+use Rattle.lt_codecs.proofs.LogTests.{few_fields, field_is}
+use Rattle.lt_terms.specs.Log as log
+use Rattle.lt_codecs.specs.Codec as codec
 
 -- ---- values
 

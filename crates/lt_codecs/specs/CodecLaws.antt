@@ -2,8 +2,8 @@
 use Rattle.std.specs.Prelude.{Bool, List, Option, Some, int_le, int_lt, length, negsuc, pos, ℕ, ℤ, ◌&&◌, ◌++◌, ◌-◌, ◌<◌, ◌^◌, ◌↔◌, ◌∷◌, ◌≡◌}
 use Rattle.std.specs.Int.{Width, byte_len, from_be_bytes, to_be_bytes}
 use mir.Val.{bits, hbits}
-use Rattle.lt_codecs.specs.Codec as codec
 use Rattle.lt_codecs.specs.Codec.{Codec, IsBytes, IsCodec, Takes}
+use Rattle.lt_codecs.specs.Codec as codec
 
 -- ---- numbers
 

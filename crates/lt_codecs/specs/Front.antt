@@ -1,8 +1,8 @@
 -- What is known of the front of bytes.
-use Rattle.std.specs.Prelude.{ℕ, List, None, Some, ◌++◌, ◌-◌, ◌≡◌, ◌⊎◌, drop, length}
-use Rattle.lt_model.specs.declared.Format.{Format}
-use Rattle.lt_model.specs.Value.{Value}
-use Rattle.lt_model.specs.Log.{Found, HasNoValue, IsFound, IsValueFront, Item, body, change_body, header_body, log_part, partial, spelled, u64, value_bytes, whole}
+use Rattle.std.specs.Prelude.{List, None, Some, drop, length, ℕ, ◌++◌, ◌-◌, ◌≡◌, ◌⊎◌}
+use Rattle.lt_terms.specs.declared.Format.{Format}
+use Rattle.lt_terms.specs.Log.{Found, HasNoValue, IsFound, IsValueFront, Item, body, change_body, header_body, log_part, partial, spelled, u64, value_bytes, whole}
+use Rattle.lt_terms.specs.Value.{Value}
 use Rattle.lt_codecs.specs.Codec.{IsBytes, ReadsBack}
 use Rattle.lt_codecs.specs.LogCodec.{change, found, header, item, item_body, log_value, part, value}
 

@@ -1,16 +1,16 @@
 -- The log's formats as codecs. Their spellings and lawful values are those of the log's grammar.
-use Rattle.std.specs.Prelude.{ℕ, zero, suc, ◌+◌, List, [], ◌∷◌, ◌++◌, length, map, take, Option, None, Some, Bool, nat_lt, nat_le, not, ◌==◌, ◌&&◌, ◌||◌, if◌then◌else◌, IsTrue, ◌≡◌}
+use Rattle.std.specs.Prelude.{Bool, IsTrue, List, None, Option, Some, [], if◌then◌else◌, length, map, nat_le, nat_lt, not, suc, take, zero, ℕ, ◌&&◌, ◌++◌, ◌+◌, ◌==◌, ◌||◌, ◌∷◌, ◌≡◌}
 use Rattle.std.specs.Option.{option_map, option_map_or}
-use Rattle.lt_model.specs.declared.BadFrame.TheVariants as bad
-use Rattle.lt_model.specs.declared.Format.{Format}
-use Rattle.lt_model.specs.declared.Format.TheVariants as format
-use Rattle.lt_model.specs.declared.Op.{Op}
-use Rattle.lt_model.specs.declared.Op.TheVariants as ops
-use Rattle.lt_model.specs.Key.{KeyPart, int_part, key_bytes, max_key, text_part}
-use Rattle.lt_model.specs.Value.{Value, bool_value, bytes_value, fields_of, int_value, is_number, is_timestamp, is_value, null_value, rises_above, struct_value, text_value}
-use Rattle.lt_model.specs.Log.{Change, Found, Header, Item, batch_item, bit, body, change_body, change_item, checkpoint_item, close_item, header_body, header_item, is_change, is_content, is_header, is_item, is_kind, is_log_part, is_two, kind_byte, log_part, magic, malformed, max_body, op_byte, partial, spelled, value_bytes, whole}
+use Rattle.lt_terms.specs.Log.{Change, Found, Header, Item, batch_item, bit, body, change_body, change_item, checkpoint_item, close_item, header_body, header_item, is_change, is_content, is_header, is_item, is_kind, is_log_part, is_two, kind_byte, log_part, magic, malformed, max_body, op_byte, partial, spelled, value_bytes, whole}
+use Rattle.lt_terms.specs.Value.{Value, bool_value, bytes_value, fields_of, int_value, is_number, is_timestamp, is_value, null_value, rises_above, struct_value, text_value}
+use Rattle.lt_terms.specs.Key.{KeyPart, int_part, key_bytes, max_key, text_part}
+use Rattle.lt_terms.specs.declared.Op.{Op}
+use Rattle.lt_terms.specs.declared.Format.{Format}
+use Rattle.lt_codecs.specs.Codec.{Codec, bytes16, bytes32, counted, empty, i64, literal, nothing, on_tag, optional, sized, stated, tagged, text32, then_by, u16, u32, u64, u8, where_true, ◌then◌}
+use Rattle.lt_terms.specs.declared.Op.TheVariants as ops
+use Rattle.lt_terms.specs.declared.Format.TheVariants as format
+use Rattle.lt_terms.specs.declared.BadFrame.TheVariants as bad
 use Rattle.lt_codecs.specs.Codec as codec
-use Rattle.lt_codecs.specs.Codec.{Codec, ◌>>=◌, ◌then◌, bytes16, bytes32, counted, empty, i64, literal, mapped, nothing, on_tag, optional, sized, stated, tagged, text32, then_by, u16, u32, u64, u8, where_true}
 
 -- ---- values
 

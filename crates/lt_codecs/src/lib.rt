@@ -1,13 +1,12 @@
-//! The laws of keys, of the log's bytes and of the store's, and the codecs that every binary format is built from.
+//! The laws of keys and of the log's bytes, and the codecs that every binary format is built from.
 //!
 //! Each function here has an empty body: its contract is a law over the definitions, for all values.
 #![tactic(auto)]
 
-ghost use Rattle.lt_model.specs.Key.{AreKeysPrefixFree, KeepsOrder};
-ghost use Rattle.lt_model.specs.Log.{AreValuesPrefixFree, IsPrefixFree};
+ghost use Rattle.lt_terms.specs.Key.{AreKeysPrefixFree, KeepsOrder};
+ghost use Rattle.lt_terms.specs.Log.{AreValuesPrefixFree, IsPrefixFree};
 ghost use Rattle.lt_codecs.specs.CodecLaws.{KeepCodecs, Parts};
 ghost use Rattle.lt_codecs.specs.Front.{DecidesWhole, FindsOne, LogCodecs, ReadsValue, ReadsWhole, StaysFound};
-ghost use Rattle.lt_codecs.specs.StoreFront.{AreColumnsPrefixFree, AreIndexesPrefixFree, AreKindsPrefixFree, AreManifestsPrefixFree, BundlesAreLawful, DecidesIndexes, DecidesManifests, SpellOneList, StoreCodecs};
 
 /// For keys of one table the order of the bytes is the order of the parts.
 pub fn keys_keep_order()
@@ -67,49 +66,4 @@ pub fn combinators_keep_codecs<A, B, C: AnyCodecs<A, B>>()
 /// Each codec of the log reads what the log's grammar spells.
 pub fn log_codecs_read_back()
     ensures { LogCodecs }
-{}
-
-/// Each codec of the store reads what the store's grammar spells.
-pub fn store_codecs_read_back()
-    ensures { StoreCodecs }
-{}
-
-/// No kind's bytes begin another's.
-pub fn kinds_are_prefix_free()
-    ensures { AreKindsPrefixFree }
-{}
-
-/// No column's bytes begin another's.
-pub fn columns_are_prefix_free()
-    ensures { AreColumnsPrefixFree }
-{}
-
-/// A manifest is lawful exactly where its codec can spell it and its catalogue is lawful.
-pub fn decides_manifests()
-    ensures { DecidesManifests }
-{}
-
-/// No manifest's bytes begin another's.
-pub fn manifests_are_prefix_free()
-    ensures { AreManifestsPrefixFree }
-{}
-
-/// An index is lawful exactly where its codec can spell it and its layouts are layouts of columns.
-pub fn decides_indexes()
-    ensures { DecidesIndexes }
-{}
-
-/// No index's bytes begin another's.
-pub fn indexes_are_prefix_free()
-    ensures { AreIndexesPrefixFree }
-{}
-
-/// The codec of bundles can spell each bundle of fewer than 2^64 bytes.
-pub fn bundles_are_lawful()
-    ensures { BundlesAreLawful }
-{}
-
-/// Fewer than 2^64 bytes are, of one table and under one layout, the bundle of at most one list of versions.
-pub fn bundles_spell_one_list()
-    ensures { SpellOneList }
 {}

@@ -2,8 +2,8 @@
 use Rattle.std.proofs.Common.{List, [], ap, refl, sym, ℕ, ◌++◌, ◌∙◌, ◌∷◌, ◌≡◌}
 use Rattle.std.specs.Prelude.{map}
 use Rattle.std.proofs.lemmas.List.{map-append}
-use Rattle.lt_model.specs.Conversion.{conv, conv_fields}
-use Rattle.lt_model.specs.Value.{Fields, Value, field_list, field_value, fields_of, value_at}
+use Rattle.lt_terms.specs.Conversion.{conv, conv_fields}
+use Rattle.lt_terms.specs.Value.{Fields, Value, field_list, field_value, fields_of, value_at}
 use Rattle.lt_codecs.proofs.ValueCodecs.{list_again}
 use Rattle.lt_core.specs.View.{view_kind, view_setting, view_settings, view_value}
 use Rattle.lt_core.specs.declared.kind.Kind.{Kind as CodeKind}

@@ -7,14 +7,14 @@ use Rattle.std.proofs.lemmas.Fmt.{IsAscii-signed}
 use Rattle.std.proofs.lemmas.Str.{IsUtf8-from_ascii}
 use Rattle.std.proofs.lemmas.Bool.{false≢true}
 use Rattle.std.specs.Int.{w64}
-use Rattle.lt_model.specs.declared.Rank.{Rank}
+use Rattle.lt_terms.specs.declared.Rank.{Rank}
 use Rattle.lt_codecs.proofs.Codecs.{fit, tested}
 use Rattle.lt_core.specs.View.{view_value}
 use Rattle.lt_core.specs.declared.value.Value.{Value as CodeValue}
-use Rattle.lt_model.specs.Value.{Fields, Value, bool_value, bytes_value, fits_64, int_value, null_value, struct_value, text_value}
-use Rattle.lt_model.specs.Conversion.{at_rank, lowered_to_bool, lowered_to_int32, lowered_to_int64, lowered_to_text, number_of_text, number_or_null}
-use Rattle.lt_model.specs.declared.Rank.TheVariants as rank
-use Rattle.lt_laws.proofs.ConversionLemmas.{at_rank-null, decimal-number_of_text, mag_fits, number_of_text-decimal, utf8-decimal}
+use Rattle.lt_terms.specs.Value.{Fields, Value, bool_value, bytes_value, fits_64, int_value, null_value, struct_value, text_value}
+use Rattle.lt_terms.specs.Conversion.{at_rank, lowered_to_bool, lowered_to_int32, lowered_to_int64, lowered_to_text, number_of_text, number_or_null}
+use Rattle.lt_terms.specs.declared.Rank.TheVariants as rank
+use Rattle.lt_lemmas.proofs.ConversionLemmas.{at_rank-null, decimal-number_of_text, mag_fits, number_of_text-decimal, utf8-decimal}
 
 -- ---- whole numbers
 

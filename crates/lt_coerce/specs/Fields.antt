@@ -1,8 +1,8 @@
 -- A struct's fields, as they stand in the code.
 use Rattle.std.specs.Prelude.{List, None, Option, Some, map, ℕ}
 use Rattle.std.specs.Borrow.{Bor}
-use Rattle.lt_model.specs.Kind as kinds
-use Rattle.lt_model.specs.Value as model
+use Rattle.lt_terms.specs.Kind as kinds
+use Rattle.lt_terms.specs.Value as model
 use Rattle.lt_core.specs.declared.value.Value.{Value}
 use Rattle.lt_core.specs.declared.kind.Kind.{Kind}
 use Rattle.lt_core.specs.View.{view_kind, view_settings, view_value}

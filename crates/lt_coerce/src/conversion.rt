@@ -1,8 +1,8 @@
 //! Conversion by kinds, field by field.
 
 ghost use Rattle.std.specs.Prelude.{◌≡◌, IfOk};
-ghost use Rattle.lt_model.specs.Value.{value_at};
-ghost use Rattle.lt_model.specs.Conversion.{conv, conv_fields};
+ghost use Rattle.lt_terms.specs.Value.{value_at};
+ghost use Rattle.lt_terms.specs.Conversion.{conv, conv_fields};
 ghost use Rattle.lt_core.specs.View.{view_kind, view_value};
 ghost use Rattle.lt_coerce.specs.Fields.{value_found, view_field_kinds, view_fields};
 

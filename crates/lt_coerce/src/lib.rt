@@ -7,7 +7,5 @@
 mod conversion;
 mod number;
 mod primitive;
-#[cfg(test)]
-mod tests;
 
 pub use conversion::convert;

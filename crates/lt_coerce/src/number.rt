@@ -2,8 +2,8 @@
 
 ghost use Rattle.std.specs.Prelude.{◌≡◌, IfOk, if◌then◌else◌, pos, string_bytes};
 ghost use Rattle.std.specs.Fmt.{signed_decimal};
-ghost use Rattle.lt_model.specs.Conversion.{at_rank, lowered_to_bool, lowered_to_int32, number_of_text, number_or_null};
-ghost use Rattle.lt_model.specs.declared.Rank.TheVariants as ranks;
+ghost use Rattle.lt_terms.specs.Conversion.{at_rank, lowered_to_bool, lowered_to_int32, number_of_text, number_or_null};
+ghost use Rattle.lt_terms.specs.declared.Rank.TheVariants as ranks;
 ghost use Rattle.lt_core.specs.View.{view_value};
 
 use lt_core::{Memory, Value};

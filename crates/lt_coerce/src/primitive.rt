@@ -1,10 +1,10 @@
 //! Values at primitive kinds.
 
 ghost use Rattle.std.specs.Prelude.{◌≡◌, IfOk};
-ghost use Rattle.lt_model.specs.Value.{bytes_value};
-ghost use Rattle.lt_model.specs.Conversion as conversion;
-ghost use Rattle.lt_model.specs.Conversion.{lowered_to_text};
-ghost use Rattle.lt_model.specs.declared.Rank.TheVariants as ranks;
+ghost use Rattle.lt_terms.specs.Value.{bytes_value};
+ghost use Rattle.lt_terms.specs.Conversion as conversion;
+ghost use Rattle.lt_terms.specs.Conversion.{lowered_to_text};
+ghost use Rattle.lt_terms.specs.declared.Rank.TheVariants as ranks;
 ghost use Rattle.lt_core.specs.View.{view_value};
 
 use crate::number::{bit, decimal, long, short_of, truth_of};

@@ -2,8 +2,6 @@
 #![tactic(auto)]
 
 mod command;
-#[cfg(test)]
-mod tests;
 
 pub use command::{Command, Mode, Query};
 pub use lt_core::{Blob, Ids, Text};

@@ -4,13 +4,14 @@ use Rattle.std.specs.Prelude.{IsTrue, if◌then◌else◌, flat_map, ◌==◌, �
 use Rattle.std.specs.Str.{is_utf8}
 use Rattle.std.proofs.lemmas.List.{drop_at}
 use Rattle.std.proofs.lemmas.List.Concat.{flat_map-cons}
-use Rattle.lt_model.specs.declared.KeyKind.{KeyKind}
-use Rattle.lt_model.specs.declared.KeyKind.TheVariants as key_kind
-use Rattle.lt_model.specs.Value.{fits_64}
-use Rattle.lt_model.specs.Key.{KeyPart, escaped, int_part, is_key_of, is_part_of, number_key, part_bytes, text_part}
+use Rattle.lt_terms.specs.declared.KeyKind.{KeyKind}
+use Rattle.lt_terms.specs.declared.KeyKind.TheVariants as key_kind
+use Rattle.lt_terms.specs.Value.{fits_64}
+use Rattle.lt_terms.specs.Key.{KeyPart, escaped, int_part, is_key_of, is_part_of, number_key, part_bytes, text_part}
 use Rattle.lt_codecs.specs.Codec.{IsBytes, u32, u64, whole, ◌>>=◌, ◌then◌}
 use Rattle.std.proofs.lemmas.Bool.{and_parts as both_true}
-use Rattle.lt_codecs.proofs.Codecs.{IsBytes-drop, IsCodec, Takes, Takes-then, bind_some, some_is, then_is, u32_below, u32_is, u32_lawful, u64_is, where_true_is, whole_again, whole_takes}
+use Rattle.lt_codecs.proofs.Codecs.{IsBytes-drop, Takes-then, bind_some, some_is, then_is, u32_below, u32_is, u32_lawful, u64_is, where_true_is, whole_again, whole_takes}
+use Rattle.lt_codecs.specs.Codec.{IsCodec, Takes}
 use Rattle.lt_core.specs.KeyCodec.{IsKey, NoKey, NoOtherKey, after_zero, key_bytestring, key_number, key_of, key_part, key_parts, key_text, number_of, read_part, read_parts, unescaped, with_front}
 
 -- ---- numbers

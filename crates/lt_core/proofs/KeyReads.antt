@@ -1,9 +1,9 @@
 -- Reading keys step by step.
 use Rattle.std.proofs.Common.{◌≡◌, ◌∙◌, sym, refl, ap, List, [], ◌∷◌, ◌++◌, ℕ, ◌+◌, ◌<◌, ◌≤◌, Option, Some, None, false, length, drop, get_or, cond, ltb, le-ltb, append_assoc, append-nil, arith}
 use Rattle.std.proofs.lemmas.List.{drop_all, drop_more, map-append}
-use Rattle.lt_model.specs.declared.KeyKind.{KeyKind}
-use Rattle.lt_model.specs.declared.KeyKind.TheVariants as key_kind
-use Rattle.lt_model.specs.Key as model
+use Rattle.lt_terms.specs.declared.KeyKind.{KeyKind}
+use Rattle.lt_terms.specs.declared.KeyKind.TheVariants as key_kind
+use Rattle.lt_terms.specs.Key as model
 use Rattle.lt_codecs.specs.Codec.{u8, ◌>>=◌}
 use Rattle.lt_codecs.proofs.Codecs.{guard_none}
 use Rattle.lt_core.specs.declared.key.KeyPart.{KeyPart}

@@ -2,7 +2,7 @@
 use Rattle.std.proofs.Common.{◌≡◌, ◌∙◌, refl, ap, List, [], ◌∷◌, ◌++◌, ℕ, zero, suc, ◌≤◌, length, take, ne_eqb, arith, append_assoc}
 use Rattle.std.proofs.lemmas.List.{take_all}
 use Rattle.std.specs.Prelude.{flat_map, if◌then◌else◌}
-use Rattle.lt_model.specs.Key.{bytes_cmp, escaped, key_bytes}
+use Rattle.lt_terms.specs.Key.{bytes_cmp, escaped, key_bytes}
 use Rattle.lt_codecs.proofs.KeyLaws.{keeps_order}
 use Rattle.lt_core.specs.declared.key.Key.{Key}
 use Rattle.lt_core.specs.View.{view_parts}

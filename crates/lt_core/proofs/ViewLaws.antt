@@ -1,9 +1,9 @@
 -- What each variant of a value and of a kind stands for.
 use Rattle.std.proofs.Common.{◌≡◌, ℕ, ℤ, Bool, List, ap, sym, ◌∙◌}
-use Rattle.lt_model.specs.Value as model
+use Rattle.lt_terms.specs.Value as model
 use Rattle.std.specs.Prelude.{map}
-use Rattle.lt_model.specs.declared.Rank.{Rank}
-use Rattle.lt_model.specs.Kind as kinds
+use Rattle.lt_terms.specs.declared.Rank.{Rank}
+use Rattle.lt_terms.specs.Kind as kinds
 use Rattle.lt_core.specs.declared.kind.Kind.{Kind}
 use Rattle.lt_core.specs.declared.kind.Kind.TheFolds.{fold-roll-Kind}
 use Rattle.lt_core.specs.declared.kind.Kind.TheOpen.{Kind-F}

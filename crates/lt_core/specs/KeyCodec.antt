@@ -3,10 +3,10 @@ use Rattle.std.specs.Prelude.{IsTrue, List, None, Option, Some, [], flat_map, if
 use Rattle.std.specs.Str.{is_utf8}
 use Rattle.std.specs.declared.result.Result.{Result}
 use Rattle.std.specs.declared.result.Result.TheVariants.{Err, Ok}
-use Rattle.lt_model.specs.declared.KeyKind.{KeyKind}
-use Rattle.lt_model.specs.declared.KeyKind.TheVariants as key_kind
-use Rattle.lt_model.specs.Value.{fits_64}
-use Rattle.lt_model.specs.Key.{KeyPart, escaped, int_part, is_key_of, is_part_of, key_bytes, number_key, part_bytes, text_part}
+use Rattle.lt_terms.specs.declared.KeyKind.{KeyKind}
+use Rattle.lt_terms.specs.declared.KeyKind.TheVariants as key_kind
+use Rattle.lt_terms.specs.Value.{fits_64}
+use Rattle.lt_terms.specs.Key.{KeyPart, escaped, int_part, is_key_of, is_part_of, key_bytes, number_key, part_bytes, text_part}
 use Rattle.lt_codecs.specs.Codec.{Codec, u32, u64, where_true, ◌>>=◌, ◌then◌}
 use Rattle.lt_core.specs.declared.key.decode.DecodeRefusal.{DecodeRefusal}
 use Rattle.lt_core.specs.declared.key.decode.DecodeRefusal.TheVariants as refusals

@@ -1,7 +1,7 @@
 -- The bytes of the code's keys, and why a key has none.
 use Rattle.std.specs.Prelude.{IsTrue, List, [], if◌then◌else◌, length, ℕ, ◌<◌, ◌==◌, ◌∷◌, ◌≡◌}
-use Rattle.lt_model.specs.declared.KeyKind.{KeyKind}
-use Rattle.lt_model.specs.Key.{KeyPart, bytes_cmp, is_key_of, key_bytes, key_cmp, max_key}
+use Rattle.lt_terms.specs.declared.KeyKind.{KeyKind}
+use Rattle.lt_terms.specs.Key.{KeyPart, bytes_cmp, is_key_of, key_bytes, key_cmp, max_key}
 use Rattle.lt_core.specs.View.{view_parts}
 use Rattle.lt_core.specs.declared.key.Key.{Key}
 use Rattle.lt_core.specs.declared.key.encode.KeyRefusal.{KeyRefusal}

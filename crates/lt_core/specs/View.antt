@@ -1,9 +1,9 @@
 -- What the code's types stand for in the definitions.
 use Rattle.std.specs.Prelude.{ℕ, List, map}
-use Rattle.lt_model.specs.Key as keys
-use Rattle.lt_model.specs.Value as model
-use Rattle.lt_model.specs.Kind as kinds
-use Rattle.lt_model.specs.Layout as layouts
+use Rattle.lt_terms.specs.Key as keys
+use Rattle.lt_terms.specs.Value as model
+use Rattle.lt_terms.specs.Kind as kinds
+use Rattle.lt_terms.specs.Layout as layouts
 use Rattle.lt_core.specs.declared.value.Value.{Value, fold-Value}
 use Rattle.lt_core.specs.declared.value.Value.TheOpen.{Value-F}
 use Rattle.lt_core.specs.declared.kind.Kind.{Kind, fold-Kind}

@@ -3,7 +3,7 @@
 //! Copying takes time linear in what is copied, and looking up a key in a range time linear in the key.
 
 ghost use Rattle.std.specs.Prelude.{◌≡◌, IfOk};
-ghost use Rattle.lt_model.specs.Key.{in_range};
+ghost use Rattle.lt_terms.specs.Key.{in_range};
 ghost use Rattle.lt_core.specs.View.{view_range};
 
 mod decode;
@@ -14,7 +14,7 @@ use crate::memory::Memory;
 use crate::text::Text;
 pub use decode::{DecodeRefusal, decode_key};
 pub use encode::{KeyRefusal, MAX_KEY, encode_key, encode_prefix};
-use lt_model::KeyKind;
+use lt_terms::KeyKind;
 use std::alloc::Global;
 
 /// The bytes of a key, or a bound of a range.

@@ -5,7 +5,7 @@ ghost use Rattle.std.specs.Prelude.{◌≡◌, IfOk};
 use crate::list::{List, ListItem};
 use crate::memory::Memory;
 use crate::text::Text;
-use lt_model::Rank;
+use lt_terms::Rank;
 
 /// A primitive kind, an enum with printed names, or a struct with numbered fields.
 #[derive(Debug, Drop)]

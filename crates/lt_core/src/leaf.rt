@@ -8,7 +8,7 @@ ghost use Rattle.lt_core.specs.View.{view_cell, view_scalar};
 use crate::list::{List, ListItem};
 use crate::memory::Memory;
 use crate::value::Blob;
-use lt_model::Rank;
+use lt_terms::Rank;
 use std::alloc::Global;
 
 /// The numbers of the fields that lead to a part of a column, from the outside in.

@@ -10,8 +10,6 @@ mod leaf;
 mod list;
 mod memory;
 mod reader;
-#[cfg(test)]
-mod tests;
 mod text;
 mod value;
 mod writer;
@@ -23,7 +21,7 @@ pub use key::{
 pub use kind::{FieldKinds, Kind, Names};
 pub use leaf::{Cell, Cells, Layout, Leaf, Path, Scalar};
 pub use list::{List, ListItem};
-pub use lt_model::{KeyKind, Op, Rank};
+pub use lt_terms::{KeyKind, Op, Rank};
 pub use memory::Memory;
 pub use reader::{Reader, Short};
 pub use text::{NotUtf8, Text, TextRefusal};

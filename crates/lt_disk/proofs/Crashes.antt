@@ -1,7 +1,7 @@
 -- The writes since the last sync, and what a crash leaves of them.
 use Rattle.std.proofs.Common.{List, None, Option, Some, [], ap, append-nil, arith, drop, false, get_or, length, length-take, min, refl, replicate, reverse, slice_get, suc, sym, take, zero, ℕ, ◌++◌, ◌+◌, ◌-◌, ◌<◌, ◌∙◌, ◌∷◌, ◌≡◌, ◌≤◌}
 use Rattle.std.proofs.lemmas.List.{length-replicate, length-reverse, take_more}
-use Rattle.lt_model.specs.Disk.{AreBytes, Torn}
+use Rattle.lt_world.specs.Disk.{AreBytes, Torn}
 use Rattle.lt_disk.specs.Crash.{is_write, left_by, left_of, left_of_write, since_sync, torn_by}
 use Rattle.lt_disk.specs.History.{HoldBytes, MayLeave}
 use Rattle.lt_disk.specs.HistoryLaws.{bytes_take, images_are_bytes, torn_by_part, torn_by_write, torn_itself}

@@ -1,6 +1,6 @@
 -- What a call leaves of the images.
 use Rattle.std.proofs.Common.{List, subst, sym, ℕ, ◌∷◌, ◌≡◌}
-use Rattle.lt_model.specs.Disk.{AreBytes, Follows, Torn}
+use Rattle.lt_world.specs.Disk.{AreBytes, Follows, Torn}
 use Rattle.lt_disk.specs.History.{HoldBytes, MayLeave, replay}
 use Rattle.lt_disk.specs.HistoryLaws.{images_are_bytes, replay_bytes, replay_is_image, torn_itself}
 use Rattle.lt_disk.specs.declared.history.Event.{Event}

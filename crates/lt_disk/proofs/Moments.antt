@@ -2,8 +2,8 @@
 use Rattle.std.proofs.Common.{List, None, Option, Some, arith, inl, inr, refl, subst, sym, ℕ, ◌+◌, ◌≡◌, ◌↔◌, ◌≤◌, ⊎_elim}
 use Rattle.std.specs.Prelude.{IfSome, IsSome}
 use Rattle.std.proofs.lemmas.Bool.{false≢true}
-use Rattle.lt_model.specs.Disk.{DiskState, Elapses, LeftOnly, Only, StaysOutside}
-use Rattle.lt_model.specs.Outside.{LeavesNow}
+use Rattle.lt_world.specs.Disk.{DiskState, Elapses, LeftOnly, Only, StaysOutside}
+use Rattle.lt_world.specs.Disk.{LeavesNow}
 use Rattle.lt_disk.specs.Within.{IsStable, IsWithin, ReadsWithin}
 use Rattle.lt_disk.proofs.Written.{stays_itself, stays_on, stays_wider}
 

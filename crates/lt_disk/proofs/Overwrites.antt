@@ -2,7 +2,7 @@
 use Rattle.std.proofs.Common.{List, [], ap, append-nil, arith, drop, inl, inr, length, length-append, min, refl, suc, sym, take, zero, ℕ, ◌++◌, ◌+◌, ◌-◌, ◌∙◌, ◌∷◌, ◌≡◌, ◌≤◌}
 use Rattle.std.proofs.lemmas.Bool.{cases_lt}
 use Rattle.std.proofs.lemmas.List.{drop_all, length-replicate, take-append-le, take-replicate, take_all}
-use Rattle.lt_model.specs.Disk.{bytes_at, with_bytes, zeros}
+use Rattle.lt_world.specs.Disk.{bytes_at, with_bytes, zeros}
 
 -- how many zeros stand behind does not matter, where they are enough
 take_zeros : (n : ℕ) (xs : List ℕ) (j k : ℕ) → n ≤ length xs + j → n ≤ length xs + k → take n (xs ++ zeros j) ≡ take n (xs ++ zeros k)

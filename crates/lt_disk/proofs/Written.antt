@@ -2,7 +2,7 @@
 use Rattle.std.proofs.Common.{List, ap, arith, drop, get_or, inl, inr, length, length-append, length-drop, length-take, refl, sym, take, zero-add, ℕ, ◌+◌, ◌-◌, ◌++◌, ◌<◌, ◌∙◌, ◌≡◌, ◌≤◌, ◌⊎◌}
 use Rattle.std.proofs.lemmas.Bool.{cases_lt}
 use Rattle.std.proofs.lemmas.List.{ext_get_or, get_or-append_right, get_or-drop, get_or-replicate, get_or-take, get_or_append_left, get_or_past, length-replicate, take-append-le}
-use Rattle.lt_model.specs.Disk.{StaysOutside, Torn, bytes_at, with_bytes, zeros}
+use Rattle.lt_world.specs.Disk.{StaysOutside, Torn, bytes_at, with_bytes, zeros}
 
 -- ---- bytes at a place
 

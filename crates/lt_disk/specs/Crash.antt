@@ -1,6 +1,6 @@
 -- What picks leave of the writes since the last sync.
 use Rattle.std.specs.Prelude.{Bool, List, None, Option, Some, [], false, length, min, replicate, slice_get, take, true, ℕ, ◌∷◌}
-use Rattle.lt_model.specs.Disk.{with_bytes}
+use Rattle.lt_world.specs.Disk.{with_bytes}
 use Rattle.lt_disk.specs.History.{replay}
 use Rattle.lt_disk.specs.declared.crash.Pick.{Pick}
 use Rattle.lt_disk.specs.declared.crash.Pick.TheVariants as picks

@@ -1,7 +1,7 @@
 -- What a disk in memory reads, and what a crash may leave of it, after the events of its history, the newest first.
 use Rattle.std.specs.Prelude.{List, [], length, suc, ℕ, ◌∷◌, ◌≡◌, ◌≤◌, ◌⊎◌, true, false}
 use Rattle.std.specs.List.{AllByRecursion}
-use Rattle.lt_model.specs.Disk.{AreBytes, Torn, with_bytes}
+use Rattle.lt_world.specs.Disk.{AreBytes, Torn, with_bytes}
 use Rattle.lt_disk.specs.declared.history.Event.{Event}
 use Rattle.lt_disk.specs.declared.history.Event.TheVariants.{Sync, Write}
 

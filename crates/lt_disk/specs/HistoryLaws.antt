@@ -1,7 +1,7 @@
 -- What holds of every history: the laws of a disk's clock and of its images.
 use Rattle.std.proofs.Common.{List, [], ap, arith, drop, get_or, inl, inr, length, length-append, length-drop, length-take, refl, subst, suc, sym, take, true, false, zero, ℕ, ◌++◌, ◌+◌, ◌-◌, ◌∙◌, ◌∷◌, ◌≡◌, ◌≤◌}
 use Rattle.std.proofs.lemmas.List.{get_or-append_right, get_or-drop, get_or-take, get_or_append_left, length-replicate}
-use Rattle.lt_model.specs.Disk.{AreBytes, Elapses, Torn, bytes_at, with_bytes, zeros}
+use Rattle.lt_world.specs.Disk.{AreBytes, Elapses, Torn, bytes_at, with_bytes, zeros}
 use Rattle.lt_disk.specs.declared.history.Event.{Event}
 use Rattle.lt_disk.specs.declared.history.Event.TheVariants.{Sync, Write}
 use Rattle.lt_disk.specs.History.{HoldBytes, LeftSince, MayLeave, replay}

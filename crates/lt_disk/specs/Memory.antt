@@ -1,6 +1,6 @@
 -- What a disk in memory tells.
 use Rattle.std.specs.Prelude.{IsTrue, List, MatchResult, Result, Some, false, length, true, ℕ, ◌∷◌, ◌≡◌, ◌⊎◌}
-use Rattle.lt_model.specs.Disk.{DiskState, Only}
+use Rattle.lt_world.specs.Disk.{DiskState, Only}
 use Rattle.lt_disk.specs.Plan.{Plan, counted, fails_next, no_plan}
 use Rattle.lt_disk.specs.History.{LeftSince, MayLeave}
 use Rattle.lt_disk.specs.declared.history.Event.{Event}

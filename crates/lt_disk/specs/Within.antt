@@ -1,7 +1,7 @@
 -- What calls leave of a disk outside a range, and after a sync.
 use Rattle.std.specs.Prelude.{IfSome, List, ℕ}
-use Rattle.lt_model.specs.Disk.{DiskState, Only, StaysOutside}
-use Rattle.lt_model.specs.Outside.{StaysTold}
+use Rattle.lt_world.specs.Disk.{DiskState, Only, StaysOutside}
+use Rattle.lt_world.specs.Object.{StaysTold}
 
 -- an image that came of one of the old ones, and is as that one outside a range
 abbrev pub IsWithin : DiskState → ℕ → ℕ → List ℕ → Type 0

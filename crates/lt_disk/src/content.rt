@@ -2,7 +2,7 @@
 //! the file grows; the first one copies what was held.
 
 ghost use Rattle.std.specs.Prelude.{◌≡◌, ◌<◌, ◌≤◌, ◌+◌, ◌-◌, ◌++◌, length, take, drop, OnOk, OnErr};
-ghost use Rattle.lt_model.specs.Disk.{bytes_at, with_bytes, zeros};
+ghost use Rattle.lt_world.specs.Disk.{bytes_at, with_bytes, zeros};
 
 use lt_core::{Blob, Memory};
 use std::alloc::Global;

@@ -5,8 +5,8 @@
 //! succeeds it leaves what reads. The clock counts moments, so that a promise can speak of a crash at any of them.
 
 ghost use Rattle.std.specs.Prelude.{◌≡◌, ◌<◌, ◌≤◌, ℕ, List, length, IfSome, OnOk};
-ghost use Rattle.lt_model.specs.Disk.{CountsOne, DiskState, Follows, HasCause, Only, Reads, Torn};
-ghost use Rattle.lt_model.specs.Outside.{DiskCalled, WritesTold};
+ghost use Rattle.lt_world.specs.Disk.{CountsOne, DiskState, Follows, HasCause, Only, Reads, Torn};
+ghost use Rattle.lt_world.specs.Disk.{DiskCalled, WritesTold};
 
 use crate::fault::DiskFault;
 

@@ -3,7 +3,7 @@
 //! process that opens it gets a fault.
 
 ghost use Rattle.std.specs.Prelude.{◌≡◌, None};
-ghost use Rattle.lt_model.specs.Disk.{AreBytes};
+ghost use Rattle.lt_world.specs.Disk.{AreBytes};
 
 use crate::disk::Disk;
 use crate::fault::DiskFault;
@@ -15,6 +15,15 @@ use std::rt::Files;
 
 const STORE: &str = "store.lt";
 
+/// What became of the syncs so far.
+#[derive(Clone, Copy, Debug)]
+struct Synced {
+    /// The file's name is on the disk.
+    named: bool,
+    /// A sync failed.
+    failed: bool,
+}
+
 /// A disk over the file store.lt, which its first call opens and locks, and makes empty where there is none. An opening that
 /// fails, as where another process has the lock or store.lt is no regular file, is that call's fault, and the next call opens
 /// again. After a sync that failed each later one fails too, since the system forgets what it could not write.
@@ -22,7 +31,7 @@ const STORE: &str = "store.lt";
 pub struct FileDisk<R> {
     rt: R,
     file: Option<File>,
-    sync_failed: bool,
+    synced: Synced,
     faults: u64,
     write_faults: u64,
     reads: u64,
@@ -39,7 +48,10 @@ impl<R> FileDisk<R> {
         FileDisk {
             rt,
             file: None,
-            sync_failed: false,
+            synced: Synced {
+                named: false,
+                failed: false,
+            },
             faults: 0,
             write_faults: 0,
             reads: 0,
@@ -72,7 +84,7 @@ impl<R: Files<File = File>> Disk for FileDisk<R> {
     }
 
     fn sync(&mut self) -> Result<(), DiskFault> {
-        if sync(&self.rt, &mut self.file, &mut self.sync_failed).is_err() {
+        if sync(&self.rt, &mut self.file, &mut self.synced).is_err() {
             self.faults = self.faults.saturating_add(1);
             self.write_faults = self.write_faults.saturating_add(1);
             return Err(DiskFault);
@@ -87,7 +99,7 @@ impl<R: Files<File = File>> Disk for FileDisk<R> {
     ghost reads_an_image = { λ _. tt };
 }
 
-/// The open file. Where it is opened, it is locked, and its name is put on the disk too.
+/// The open file. Where it is opened, it is locked.
 fn opened<R: Files<File = File>>(rt: &R, file: Option<File>) -> io::Result<File> {
     if let Some(file) = file {
         return Ok(file);
@@ -103,7 +115,6 @@ fn opened<R: Files<File = File>>(rt: &R, file: Option<File>) -> io::Result<File>
         return Err(ErrorKind::InvalidInput.into());
     }
     file.try_lock()?;
-    File::open(rt, ".")?.sync_all()?;
     Ok(file)
 }
 
@@ -134,17 +145,27 @@ fn write<R: Files<File = File>>(
 fn sync<R: Files<File = File>>(
     rt: &R,
     slot: &mut Option<File>,
-    failed: &mut bool,
+    synced: &mut Synced,
 ) -> io::Result<()> {
     let file = opened(rt, slot.take())?;
-    let outcome = if *failed {
+    let outcome = if synced.failed {
         Err(ErrorKind::Other.into())
     } else {
-        file.sync_all()
+        sync_named(rt, &file, synced.named)
     };
-    *failed = outcome.is_err();
+    synced.named = outcome.is_ok();
+    synced.failed = outcome.is_err();
     *slot = Some(file);
     outcome
+}
+
+/// Syncs the file, and where its name is not on the disk yet, the folder behind it.
+fn sync_named<R: Files<File = File>>(rt: &R, file: &File, named: bool) -> io::Result<()> {
+    file.sync_all()?;
+    if !named {
+        File::open(rt, ".")?.sync_all()?;
+    }
+    Ok(())
 }
 
 /// Fills the buffer from a place on, and with 0 past the end of the file. A place from 2^63 on is refused by the system.

@@ -18,6 +18,3 @@ pub use disk::Disk;
 pub use fault::DiskFault;
 pub use file_disk::FileDisk;
 pub use mem_disk::MemDisk;
-
-#[cfg(test)]
-mod tests;

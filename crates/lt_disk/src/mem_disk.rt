@@ -3,8 +3,8 @@
 
 ghost use Rattle.std.specs.Prelude.{◌≡◌, ◌∷◌, [], ◌<◌, ◌≤◌, ℕ, List, Some, length, is_err, IfOk, IfSome, OnOk, OnErr, true};
 ghost use Rattle.std.proofs.Props.{props};
-ghost use Rattle.lt_model.specs.Disk.{AreBytes, CountsOne, Follows, HasCause, Only, Reads, Torn, bytes_at, with_bytes};
-ghost use Rattle.lt_model.specs.Outside.{DiskCalled, WritesTold};
+ghost use Rattle.lt_world.specs.Disk.{AreBytes, CountsOne, Follows, HasCause, Only, Reads, Torn, bytes_at, with_bytes};
+ghost use Rattle.lt_world.specs.Disk.{DiskCalled, WritesTold};
 ghost use Rattle.lt_disk.specs.Plan.{no_plan, listing, stopping, with_fault, counted, GoesByPlan, GoesUnlessLacking, FailsOnly};
 ghost use Rattle.lt_disk.specs.History.{replay, HoldBytes};
 ghost use Rattle.lt_disk.specs.declared.history.Event.TheVariants.{Sync, Write};
@@ -80,7 +80,8 @@ impl MemDisk {
     /// The disk after a crash, as one that holds what the crash left. The k-th pick says what it left of the k-th write since
     /// the last sync that succeeded, taken or refused. A missing pick is `Old`.
     pub fn crash(&self, picks: &[Pick]) -> Result<MemDisk, Memory>
-        ensures held { IfOk result (λ disk. disk_held disk ≡ left_by picks.now (disk_first self.now) (disk_history self.now)) }
+        ensures held { IfOk result (λ disk. disk_held disk ≡ left_by picks.now (disk_first self.now)
+            (disk_history self.now)) }
         ensures image { IfOk result (λ disk. disk_may_leave self.now (disk_held disk)) }
         ensures fresh { IfOk result IsFresh }
     {
@@ -149,7 +150,8 @@ impl Disk for MemDisk {
         ensures called { DiskCalled (disk_state self.old) (disk_state self.new) result }
         ensures read { disk_reads self.new ≡ disk_reads self.old }
         ensures written { HasCause (disk_write_faults self.old) (disk_write_faults self.new) result }
-        ensures plan { GoesUnlessLacking (disk_plan self.old) (disk_plan self.new) (disk_lacks self.old) (disk_lacks self.new) (is_err result) }
+        ensures plan { GoesUnlessLacking (disk_plan self.old) (disk_plan self.new) (disk_lacks self.old)
+            (disk_lacks self.new) (is_err result) }
         ensures failed { OnErr result (disk_held self.new ≡ disk_held self.old) }
         ensures noted { NotesWrite self.old self.new place bytes.now result }
     {
@@ -168,13 +170,15 @@ impl Disk for MemDisk {
     }
 
     fn sync(&mut self) -> Result<(), DiskFault>
-        ensures durable { OnOk result (IfSome (Some (disk_held self.new)) (λ image. Only image (disk_may_leave self.new))) }
+        ensures durable { OnOk result (IfSome (Some (disk_held self.new))
+            (λ image. Only image (disk_may_leave self.new))) }
         ensures same { Some (disk_held self.new) ≡ Some (disk_held self.old) }
         ensures crash { (c : List ℕ) → disk_may_leave self.new c → disk_may_leave self.old c }
         ensures called { DiskCalled (disk_state self.old) (disk_state self.new) result }
         ensures read { disk_reads self.new ≡ disk_reads self.old }
         ensures written { HasCause (disk_write_faults self.old) (disk_write_faults self.new) result }
-        ensures plan { GoesUnlessLacking (disk_plan self.old) (disk_plan self.new) (disk_lacks self.old) (disk_lacks self.new) (is_err result) }
+        ensures plan { GoesUnlessLacking (disk_plan self.old) (disk_plan self.new) (disk_lacks self.old)
+            (disk_lacks self.new) (is_err result) }
         ensures noted { NotesSync self.old self.new result }
     {
         if self.calls.next_fails() {

@@ -3,11 +3,11 @@ use Rattle.std.proofs.Common.{Bool, List, [], false, inl, inr, le-leb, leb-true,
 use Rattle.std.specs.Prelude.{IfSome, IsTrue, nat_le, not, slice_get, suc, zero, ◌||◌}
 use Rattle.std.specs.List.{AllByRecursion, list_all}
 use Rattle.std.proofs.lemmas.Bool.{and_from, and_parts}
-use Rattle.lt_model.specs.Fair.{window_ts}
-use Rattle.lt_model.specs.Key.{in_range}
-use Rattle.lt_model.specs.Log.{Change, change_key}
-use Rattle.lt_model.specs.Machine.{StreamAt}
-use Rattle.lt_model.specs.Outside.{Memory}
+use Rattle.lt_tables.specs.Fair.{window_ts}
+use Rattle.lt_terms.specs.Key.{in_range}
+use Rattle.lt_terms.specs.Log.{Change, change_key}
+use Rattle.lt_tables.specs.Pump.{StreamAt}
+use Rattle.lt_machine.specs.Sound.{Memory}
 use Rattle.lt_pump.specs.Given.{AreAllBehind, AreBehind, IsBehind}
 use Rattle.lt_engine.specs.Behind.{are_behind, is_behind}
 

@@ -6,10 +6,11 @@ use Rattle.lt_command.specs.View.{view_command, view_query}
 use Rattle.lt_command.specs.declared.command.Command as commands
 use Rattle.lt_command.specs.declared.command.Command.TheVariants as command
 use Rattle.lt_command.specs.declared.command.Query as queries
-use Rattle.lt_model.specs.InMemory.{asks_all, is_all_rows, is_built}
-use Rattle.lt_model.specs.Outside.{is_command}
-use Rattle.lt_model.specs.Query.{Literal, Pred, Query, all_rows, both, compares, either, is_null, negated}
-use Rattle.lt_model.specs.Script.{do_scan, plain_query}
+use Rattle.lt_words.specs.Lines.{asks_all, is_all_rows, is_built}
+use Rattle.lt_machine.specs.Outside.{is_command}
+use Rattle.lt_tables.specs.Query.{Literal, Pred, Query, all_rows, both, compares, either, is_null, negated}
+use Rattle.lt_tables.specs.Query.{do_scan}
+use Rattle.lt_words.specs.Script.{plain_query}
 use Rattle.lt_engine.specs.Scans.{plain}
 
 abbrev IsTaken : commands.Command → Type 0

@@ -1,7 +1,7 @@
 -- What the catalogue's calls answer, as the catalogue that they leave.
 use Rattle.std.proofs.Common.{refl, subst, sym, ℕ, ◌≡◌}
 use Rattle.std.specs.Prelude.{Err, None, Ok, Option, Some}
-use Rattle.lt_model.specs.Schema.{Became, Catalogue, RetireFault, SchemaFault, SchemaVersion, added, as_it_was, err_or, retire_fault, retired, schema_fault, then_added, then_retired, with_version, without_version}
+use Rattle.lt_tables.specs.Schema.{Became, Catalogue, RetireFault, SchemaFault, SchemaVersion, added, as_it_was, err_or, retire_fault, retired, schema_fault, then_added, then_retired, with_version, without_version}
 
 answer_ok : {A E : Type 0} (o : Option E) (a b : A) → err_or o a ≡ Ok b → (o ≡ None) × (b ≡ a)
 answer_ok None a b e = (refl, cc)

@@ -1,9 +1,9 @@
 -- A change that is put or taken out where a partition holds it.
 use Rattle.std.proofs.Common.{List, [], ap, length, map, refl, slice_index_or, slice_set, suc, sym, zero, ℕ, ◌<◌, ◌∙◌, ◌∷◌, ◌≡◌}
 use Rattle.std.specs.Prelude.{Err, Ok, OnErr, OnOk, Result, Some, slice_get}
-use Rattle.lt_model.specs.Log.{Change}
-use Rattle.lt_model.specs.Outside.{put_change, without_change}
-use Rattle.lt_model.specs.Schema.{change_at}
+use Rattle.lt_terms.specs.Log.{Change}
+use Rattle.lt_tables.specs.Pump.{put_change, without_change}
+use Rattle.lt_tables.specs.Schema.{change_at}
 use Rattle.lt_pending.specs.Held.{held_in}
 use Rattle.lt_pending.specs.declared.changes.Changes.{Changes}
 use Rattle.lt_pump.proofs.PumpLaws.{set_changed}

@@ -4,10 +4,11 @@ use Rattle.std.proofs.lemmas.List.{map-append, take-map, take_more}
 use Rattle.std.proofs.KnownBytes.{Appends-trans}
 use Rattle.std.specs.Prelude.{Err, IfSome, Option, Result, Some}
 use Rattle.std.specs.Io.KnownBytes.{Appends}
-use Rattle.lt_model.specs.Outside.{Given, GivenUpTo, RowSinkState, texts_of}
-use Rattle.lt_model.specs.Program.{IsFront}
-use Rattle.lt_model.specs.Reply as model
-use Rattle.lt_model.specs.Value.{Value}
+use Rattle.lt_world.specs.RowSink.{Given, RowSinkState, texts_of}
+use Rattle.lt_machine.specs.Outside.{GivenUpTo}
+use Rattle.lt_world.specs.Object.{IsFront}
+use Rattle.lt_words.specs.Reply as model
+use Rattle.lt_terms.specs.Value.{Value}
 use Rattle.lt_io.specs.declared.row_sink.RowRefusal.{RowRefusal}
 use Rattle.lt_io.specs.declared.row_sink.RowRefusal.TheVariants as refusals
 use Rattle.lt_engine.specs.Scans.{GivesSome}

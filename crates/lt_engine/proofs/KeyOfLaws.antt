@@ -4,22 +4,22 @@ use Rattle.std.specs.Prelude.{IfNone, None, Option, Some, codes, is_none, nat_lt
 use Rattle.std.specs.Borrow.{Bor}
 use Rattle.std.specs.List.{AllByRecursion}
 use Rattle.std.specs.Option.{option_copied, option_map_or, option_or}
-use Rattle.lt_model.specs.declared.KeyKind.{KeyKind}
-use Rattle.lt_model.specs.Key as keys
-use Rattle.lt_model.specs.Key.{max_key}
-use Rattle.lt_model.specs.Machine.{part_misfit}
-use Rattle.lt_model.specs.Query as query
-use Rattle.lt_model.specs.Query.{bound, literal_part, parts_of}
-use Rattle.lt_model.specs.Reply as model
-use Rattle.lt_model.specs.Reply.{bad_column, key_too_long, no_such_table, wrong_literal}
-use Rattle.lt_model.specs.Schema as schema
-use Rattle.lt_model.specs.Schema.{Catalogue, IsCatalogue, Registered, Table, after_adding, after_retiring, change_at, first_of, key_kinds, live_version, new_table, nothing_yet, registered, retired_version, schema_version, table_named, table_numbered, when, whole_version, with_retired, with_version, without_version}
+use Rattle.lt_terms.specs.declared.KeyKind.{KeyKind}
+use Rattle.lt_terms.specs.Key as keys
+use Rattle.lt_terms.specs.Key.{max_key}
+use Rattle.lt_machine.specs.Machine.{part_misfit}
+use Rattle.lt_tables.specs.Query as query
+use Rattle.lt_tables.specs.Query.{bound, literal_part, parts_of}
+use Rattle.lt_words.specs.Reply as model
+use Rattle.lt_words.specs.Reply.{bad_column, key_too_long, no_such_table, wrong_literal}
+use Rattle.lt_tables.specs.Schema as schema
+use Rattle.lt_tables.specs.Schema.{Catalogue, IsCatalogue, Registered, Table, after_adding, after_retiring, change_at, first_of, key_kinds, live_version, new_table, nothing_yet, registered, retired_version, schema_version, table_named, table_numbered, when, whole_version, with_retired, with_version, without_version}
 use Rattle.std.proofs.Math.Seq.{drop-cons}
 use Rattle.std.proofs.lemmas.List.{append-nil, drop_all}
 use Rattle.lt_core.specs.View.{view_part, view_parts}
 use Rattle.lt_core.specs.declared.key.KeyPart.{KeyPart}
 use Rattle.lt_laws.proofs.AnswerLaws.{named_is_numbered}
-use Rattle.lt_laws.proofs.ListFacts.{find_all}
+use Rattle.lt_lemmas.proofs.ListFacts.{find_all}
 use Rattle.lt_pred.specs.View.{view_literal, view_literals}
 use Rattle.lt_pred.specs.declared.literal.Literal.{Literal}
 use Rattle.lt_reply.specs.declared.refusal.Refusal.{Refusal}

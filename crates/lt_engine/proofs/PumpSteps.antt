@@ -3,21 +3,24 @@ use Rattle.std.proofs.Common.{Bool, List, [], ap, arith, false, inl, inr, ltb-tr
 use Rattle.std.proofs.lemmas.Bool.{and_parts, false≢true}
 use Rattle.std.specs.Prelude.{Err, IfErr, IfOk, IfSome, IsTrue, None, Ok, OnOk, Option, Result, Some, nat_lt, not, ◌&&◌, ◌==◌}
 use Rattle.std.specs.List.{list_any}
-use Rattle.lt_model.specs.Disk.{DiskState, Rose}
-use Rattle.lt_model.specs.Fair.{Feed}
+use Rattle.lt_world.specs.Disk.{DiskState, Rose}
+use Rattle.lt_world.specs.Feed.{Feed}
 use Rattle.lt_command.specs.View.{view_command}
 use Rattle.lt_command.specs.declared.command.Command as commands
 use Rattle.lt_command.specs.declared.command.Command.TheVariants as pumps
-use Rattle.lt_model.specs.InMemory.{is_built, memory_causes}
-use Rattle.lt_model.specs.Log.{Change, changes_of}
-use Rattle.lt_model.specs.Machine.{DoesOver, State, refused, refuses, replies, with_items}
-use Rattle.lt_model.specs.Outside.{BelongsTo, FeedGoes, FeedState, MemoryAbove, RowSinkState, StaysBut, caused_by, counts_at, is_command, world_of}
-use Rattle.lt_model.specs.Reply as model
-use Rattle.lt_model.specs.Run.{AfterFault, Answers, Shows, is_pump_fault, tells_of_feed}
-use Rattle.lt_model.specs.Schema.{when}
-use Rattle.lt_model.specs.Script.{do_pump}
-use Rattle.lt_model.specs.Sound.{source_of}
-use Rattle.lt_model.specs.Step.{RefusesAs, held_changes}
+use Rattle.lt_words.specs.Lines.{is_built}
+use Rattle.lt_machine.specs.InMemory.{memory_causes}
+use Rattle.lt_terms.specs.Log.{Change, changes_of}
+use Rattle.lt_machine.specs.Machine.{DoesOver, State, refused, refuses, replies, with_items}
+use Rattle.lt_world.specs.Feed.{FeedGoes, FeedState}
+use Rattle.lt_world.specs.RowSink.{RowSinkState}
+use Rattle.lt_machine.specs.Outside.{BelongsTo, MemoryAbove, StaysBut, caused_by, counts_at, is_command, world_of}
+use Rattle.lt_words.specs.Reply as model
+use Rattle.lt_machine.specs.Run.{AfterFault, Answers, Shows, is_pump_fault, tells_of_feed}
+use Rattle.lt_tables.specs.Schema.{when}
+use Rattle.lt_tables.specs.Query.{do_pump}
+use Rattle.lt_machine.specs.Sound.{source_of}
+use Rattle.lt_machine.specs.Step.{RefusesAs, held_changes}
 use Rattle.lt_reply.specs.View.{IsSpoken, view_refusal, view_reply}
 use Rattle.lt_reply.specs.declared.refusal.Refusal.{Refusal}
 use Rattle.lt_reply.specs.declared.reply.Reply.{Reply}

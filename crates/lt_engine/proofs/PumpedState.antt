@@ -5,18 +5,21 @@ use Rattle.std.specs.List.{AllByRecursion, list_any}
 use Rattle.std.proofs.lemmas.Bool.{false≢true}
 use Rattle.std.proofs.lemmas.List.{map-append, take_all, take_more}
 use Rattle.std.proofs.lemmas.Option.{get_or_from_slice_get, same_Some}
-use Rattle.lt_model.specs.declared.Format.TheVariants as format
-use Rattle.lt_model.specs.Fair.{Feed}
-use Rattle.lt_model.specs.Key.{Range, in_range, ranges_from, tile}
-use Rattle.lt_model.specs.Log.{Change, Header, Item, batch_item, change_item, changes_of, checkpoint_item, close_item, header_item, is_item}
-use Rattle.lt_model.specs.Machine as Machine
-use Rattle.lt_model.specs.Machine.{Does, PumpsFair, State, StreamAt, Stops, Takes, cat_of, entering, moved_by, refused, replies, stream_at, with_items, with_streams}
-use Rattle.lt_model.specs.Outside.{Memory, name_of}
-use Rattle.lt_model.specs.Reply as model
-use Rattle.lt_model.specs.Schema.{Catalogue, when}
-use Rattle.lt_model.specs.Script.{do_pump}
-use Rattle.lt_model.specs.Store.{Durable, Part, Stream}
-use Rattle.lt_laws.proofs.RangeLaws.{IsSole, tile_sole}
+use Rattle.lt_terms.specs.declared.Format.TheVariants as format
+use Rattle.lt_world.specs.Feed.{Feed}
+use Rattle.lt_terms.specs.Key.{Range, in_range, ranges_from, tile}
+use Rattle.lt_terms.specs.Log.{Change, Header, Item, batch_item, change_item, changes_of, checkpoint_item, close_item, header_item, is_item}
+use Rattle.lt_machine.specs.Machine as Machine
+use Rattle.lt_tables.specs.Pump.{StreamAt, Stops, Takes, moved_by}
+use Rattle.lt_machine.specs.Machine.{Does, PumpsFair, State, cat_of, entering, refused, replies, stream_at, with_items, with_streams}
+use Rattle.lt_tables.specs.Pump.{name_of}
+use Rattle.lt_machine.specs.Sound.{Memory}
+use Rattle.lt_words.specs.Reply as model
+use Rattle.lt_tables.specs.Schema.{Catalogue, when}
+use Rattle.lt_tables.specs.Query.{do_pump}
+use Rattle.lt_tables.specs.Pump.{Part}
+use Rattle.lt_storage.specs.Store.{Durable, Stream}
+use Rattle.lt_lemmas.proofs.RangeLaws.{IsSole, tile_sole}
 use Rattle.lt_laws.proofs.TakenLaws.{stream_moved}
 use Rattle.lt_core.specs.View.{view_range}
 use Rattle.lt_parts.specs.Parts.{AreParts, lows_of, ranges}

@@ -7,11 +7,12 @@ use Rattle.std.proofs.lemmas.Bool.{cases_order}
 use Rattle.std.proofs.lemmas.List.{length-map, take_more}
 use Rattle.std.proofs.lemmas.List.Elements.{filter_map-append}
 use Rattle.std.proofs.lemmas.Option.{get_or_from_slice_get, same_Some, slice_get_within}
-use Rattle.lt_model.specs.Key.{Range, first_bound, meets, ranges_from}
-use Rattle.lt_model.specs.Machine.{StreamAt, checkpoint_at, checkpoints_meeting, least, least_of}
-use Rattle.lt_model.specs.Schema.{change_at, when}
-use Rattle.lt_model.specs.Store.{Part}
-use Rattle.lt_laws.proofs.PartsChanged.{changed_there}
+use Rattle.lt_terms.specs.Key.{Range, first_bound, meets, ranges_from}
+use Rattle.lt_tables.specs.Pump.{StreamAt}
+use Rattle.lt_machine.specs.Machine.{checkpoint_at, checkpoints_meeting, least, least_of}
+use Rattle.lt_tables.specs.Schema.{change_at, when}
+use Rattle.lt_tables.specs.Pump.{Part}
+use Rattle.lt_lemmas.proofs.PartsChanged.{changed_there}
 use Rattle.lt_parts.specs.Parts.{checkpoints_of, lows_of, ranges, with_times}
 use Rattle.lt_parts.specs.declared.entry.PartEntry.{PartEntry}
 use Rattle.lt_parts.proofs.Ranges.{range_of as range_of_part, range_with}

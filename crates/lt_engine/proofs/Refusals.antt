@@ -2,14 +2,16 @@
 use Rattle.std.proofs.Common.{Bool, List, [], ap, arith, false, length, ltb-true, not, refl, sym, true, ℕ, ◌∙◌, ◌∷◌, ◌≡◌}
 use Rattle.std.specs.Prelude.{Err, None, Ok, Option, Result, Some, if◌then◌else◌, is_none, nat_lt, option_and_then, option_map, ◌&&◌, ◌==◌, ◌^◌, ◌-◌, ◌||◌}
 use Rattle.std.specs.Option.{option_map_or, option_or}
-use Rattle.lt_model.specs.Key.{Range}
-use Rattle.lt_model.specs.Machine.{State, StreamAt, added_read, added_text, bad_column_asked, columns_fault, error_of, first_below, is_worn, literals_fault, name_and_version, names_version, not_safe_asked, part_misfit, query_interval, refused, registered_named, schema_refused, too_old_asked, unknown_stream, with_cause, wrong_literal_asked}
-use Rattle.lt_model.specs.Outside.{Memory}
-use Rattle.lt_model.specs.Query.{Query}
-use Rattle.lt_model.specs.Reply.{Refusal, bad_column, bad_schema, is_last_version, no_such_table, no_such_version, not_safe, of_text, of_version, too_old, version_retired, worn, wrong_literal}
-use Rattle.lt_model.specs.Schema.{Catalogue, Column, IsCatalogue, KeyColumn, Registered, RetireFault, SchemaFault, SchemaVersion, Table, already_retired, err_or, first_of, last_version, registered, retire_fault, schema_fault, table_named, unknown_table, unknown_version, when, with_version}
-use Rattle.lt_model.specs.SchemaText.{JsonFault, version_of_text}
-use Rattle.lt_model.specs.Script.{do_pump, do_retire, do_scan, do_schema, do_status, plain_query}
+use Rattle.lt_terms.specs.Key.{Range}
+use Rattle.lt_tables.specs.Pump.{StreamAt}
+use Rattle.lt_machine.specs.Machine.{State, added_read, added_text, bad_column_asked, columns_fault, error_of, first_below, is_worn, literals_fault, name_and_version, names_version, not_safe_asked, part_misfit, query_interval, refused, registered_named, schema_refused, too_old_asked, unknown_stream, with_cause, wrong_literal_asked}
+use Rattle.lt_machine.specs.Sound.{Memory}
+use Rattle.lt_tables.specs.Query.{Query}
+use Rattle.lt_words.specs.Reply.{Refusal, bad_column, bad_schema, is_last_version, no_such_table, no_such_version, not_safe, of_text, of_version, too_old, version_retired, worn, wrong_literal}
+use Rattle.lt_tables.specs.Schema.{Catalogue, Column, IsCatalogue, KeyColumn, Registered, RetireFault, SchemaFault, SchemaVersion, Table, already_retired, err_or, first_of, last_version, registered, retire_fault, schema_fault, table_named, unknown_table, unknown_version, when, with_version}
+use Rattle.lt_words.specs.SchemaText.{JsonFault, version_of_text}
+use Rattle.lt_tables.specs.Query.{do_pump, do_retire, do_scan, do_schema, do_status}
+use Rattle.lt_words.specs.Script.{plain_query}
 use Rattle.lt_laws.proofs.AnswerLaws.{named_is_numbered}
 use Rattle.lt_parts.specs.declared.entry.PartEntry.{PartEntry}
 use Rattle.lt_engine.specs.Answers.{IsLive, named_fault, text_refusal, version_refusal}

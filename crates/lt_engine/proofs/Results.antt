@@ -3,12 +3,13 @@ use Rattle.std.proofs.Common.{Bool, List, [], ap, false, not, refl, subst, sym, 
 use Rattle.std.specs.Prelude.{Err, IfErr, IfOk, None, Ok, Option, Result, Some, is_none, option_and_then, option_map, ◌-◌, ◌==◌, ◌^◌}
 use Rattle.std.specs.Option.{option_map_or}
 use Rattle.std.specs.Result.{IsErrAnd}
-use Rattle.lt_model.specs.Machine.{StreamAt, refused}
-use Rattle.lt_model.specs.Outside.{Memory}
-use Rattle.lt_model.specs.Reply as model
-use Rattle.lt_model.specs.Reply.{no_such_version, out_of_memory, version_retired}
-use Rattle.lt_model.specs.Schema.{Catalogue, IsCatalogue, Registered, RetireFault, SchemaVersion, Table, first_of, is_live, registered, retire_fault, schema_version, table_named, table_numbered, when, whole_version}
-use Rattle.lt_model.specs.Script.{do_retire}
+use Rattle.lt_tables.specs.Pump.{StreamAt}
+use Rattle.lt_machine.specs.Machine.{refused}
+use Rattle.lt_machine.specs.Sound.{Memory}
+use Rattle.lt_words.specs.Reply as model
+use Rattle.lt_words.specs.Reply.{no_such_version, out_of_memory, version_retired}
+use Rattle.lt_tables.specs.Schema.{Catalogue, IsCatalogue, Registered, RetireFault, SchemaVersion, Table, first_of, is_live, registered, retire_fault, schema_version, table_named, table_numbered, when, whole_version}
+use Rattle.lt_tables.specs.Query.{do_retire}
 use Rattle.lt_laws.proofs.AnswerLaws.{named_is_numbered}
 use Rattle.lt_parts.specs.declared.entry.PartEntry.{PartEntry}
 use Rattle.lt_reply.specs.View.{IsSpoken, view_refusal}

@@ -3,22 +3,24 @@ use Rattle.std.proofs.Common.{Bool, List, [], ap, ap₂, arith, cond, length, re
 use Rattle.std.proofs.lemmas.List.{length-map}
 use Rattle.std.proofs.lemmas.Slice.Zip.{length-zip}
 use Rattle.std.specs.Prelude.{None, Option, Some, find, map, nat_lt, option_map, zip, ◌&&◌, ◌^◌}
-use Rattle.lt_laws.proofs.ConversionLemmas.{same_bytes-same}
-use Rattle.lt_laws.proofs.ListFacts.{find_held}
+use Rattle.lt_lemmas.proofs.ConversionLemmas.{same_bytes-same}
+use Rattle.lt_lemmas.proofs.ListFacts.{find_held}
 use Rattle.lt_laws.proofs.MemoryLaws.{unrefused_asks}
-use Rattle.lt_laws.proofs.TableLaws.{fine_table}
-use Rattle.lt_model.specs.Conversion.{same_bytes}
-use Rattle.lt_model.specs.Key.{Range, key_bytes, meets, ranges_from}
-use Rattle.lt_model.specs.Log.{Change}
-use Rattle.lt_model.specs.Machine.{StreamAt, checkpoint_at, checkpoints, first_below, numbered_from, query_interval, ranges_of, refused}
-use Rattle.lt_model.specs.Outside.{Memory}
-use Rattle.lt_model.specs.Query.{answer, interval}
-use Rattle.lt_model.specs.Reply as model
-use Rattle.lt_model.specs.Row.{snapshot}
-use Rattle.lt_model.specs.Schema.{Catalogue, SchemaVersion, Table, table_named, table_numbered}
-use Rattle.lt_model.specs.Script.{do_scan, plain_query}
-use Rattle.lt_model.specs.Store.{Part}
-use Rattle.lt_model.specs.Value.{Value}
+use Rattle.lt_lemmas.proofs.TableLaws.{fine_table}
+use Rattle.lt_terms.specs.Conversion.{same_bytes}
+use Rattle.lt_terms.specs.Key.{Range, key_bytes, meets, ranges_from}
+use Rattle.lt_terms.specs.Log.{Change}
+use Rattle.lt_tables.specs.Pump.{StreamAt, numbered_from}
+use Rattle.lt_machine.specs.Machine.{checkpoint_at, checkpoints, first_below, query_interval, ranges_of, refused}
+use Rattle.lt_machine.specs.Sound.{Memory}
+use Rattle.lt_tables.specs.Query.{answer, interval}
+use Rattle.lt_words.specs.Reply as model
+use Rattle.lt_tables.specs.Row.{snapshot}
+use Rattle.lt_tables.specs.Schema.{Catalogue, SchemaVersion, Table, table_named, table_numbered}
+use Rattle.lt_tables.specs.Query.{do_scan}
+use Rattle.lt_words.specs.Script.{plain_query}
+use Rattle.lt_tables.specs.Pump.{Part}
+use Rattle.lt_terms.specs.Value.{Value}
 use Rattle.lt_parts.specs.Parts.{checkpoints_of, first_below_in, ranges}
 use Rattle.lt_parts.specs.declared.entry.PartEntry.{PartEntry}
 use Rattle.lt_pump.specs.Pumps.{streams_of}

@@ -3,18 +3,20 @@ use Rattle.std.proofs.Common.{List, [], ap, append-nil, arith, inl, inr, refl, s
 use Rattle.std.proofs.lemmas.Bool.{false≢true}
 use Rattle.std.specs.Prelude.{Err, IfErr, IfOk, IfSome, None, Ok, OnOk, Option, Result, Some, ◌<◌, ◌≤◌}
 use Rattle.std.specs.Io.KnownBytes.{Appends}
-use Rattle.lt_model.specs.Disk.{DiskState, Rose}
-use Rattle.lt_model.specs.Fair.{Feed}
-use Rattle.lt_model.specs.InMemory.{memory_causes}
-use Rattle.lt_model.specs.Machine.{refused}
-use Rattle.lt_model.specs.Outside.{BelongsTo, FeedState, Given, GivenUpTo, RowSinkState, StaysBut, World, counts_at, texts_of, world_of}
-use Rattle.lt_model.specs.Query.{Query}
-use Rattle.lt_model.specs.Reply as model
-use Rattle.lt_model.specs.Run.{Shows}
-use Rattle.lt_model.specs.Script.{do_scan}
-use Rattle.lt_model.specs.Sound.{source_of}
-use Rattle.lt_model.specs.Step.{BreaksIn, RefusesAs}
-use Rattle.lt_model.specs.Value.{Value}
+use Rattle.lt_world.specs.Disk.{DiskState, Rose}
+use Rattle.lt_world.specs.Feed.{Feed}
+use Rattle.lt_machine.specs.InMemory.{memory_causes}
+use Rattle.lt_machine.specs.Machine.{refused}
+use Rattle.lt_world.specs.Feed.{FeedState}
+use Rattle.lt_world.specs.RowSink.{Given, RowSinkState, texts_of}
+use Rattle.lt_machine.specs.Outside.{BelongsTo, GivenUpTo, StaysBut, World, counts_at, world_of}
+use Rattle.lt_tables.specs.Query.{Query}
+use Rattle.lt_words.specs.Reply as model
+use Rattle.lt_machine.specs.Run.{Shows}
+use Rattle.lt_tables.specs.Query.{do_scan}
+use Rattle.lt_machine.specs.Sound.{source_of}
+use Rattle.lt_machine.specs.Step.{BreaksIn, RefusesAs}
+use Rattle.lt_terms.specs.Value.{Value}
 use Rattle.lt_reply.specs.View.{IsSpoken, view_refusal, view_reply}
 use Rattle.lt_reply.specs.declared.refusal.Refusal.{Refusal}
 use Rattle.lt_reply.specs.declared.refusal.Refusal.TheVariants as refusals

@@ -1,10 +1,11 @@
 -- What a schema and a retirement leave.
 use Rattle.std.proofs.Common.{List, ap, refl, sym, ℕ, ◌+◌, ◌∙◌, ◌≡◌}
 use Rattle.std.specs.Prelude.{None, Ok, ◌==◌, ◌^◌, ◌-◌, false}
-use Rattle.lt_model.specs.Machine.{StreamAt, added_text, names_version, refused, replies, with_catalogue}
-use Rattle.lt_model.specs.Reply.{retire_done, schema_done}
-use Rattle.lt_model.specs.Schema.{Catalogue, IsCatalogue, retire_fault, without_version}
-use Rattle.lt_model.specs.Script.{do_retire, do_schema}
+use Rattle.lt_tables.specs.Pump.{StreamAt}
+use Rattle.lt_machine.specs.Machine.{added_text, names_version, refused, replies, with_catalogue}
+use Rattle.lt_words.specs.Reply.{retire_done, schema_done}
+use Rattle.lt_tables.specs.Schema.{Catalogue, IsCatalogue, retire_fault, without_version}
+use Rattle.lt_tables.specs.Query.{do_retire, do_schema}
 use Rattle.lt_parts.specs.declared.entry.PartEntry.{PartEntry}
 use Rattle.lt_pump.specs.Pumps.{streams_of}
 use Rattle.lt_reply.specs.View.{view_reply}

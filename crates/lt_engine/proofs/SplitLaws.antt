@@ -4,18 +4,22 @@ use Rattle.std.specs.Prelude.{None, Option, Some, IsTrue, codes, filter, find, i
 use Rattle.std.specs.List.{AllByRecursion}
 use Rattle.std.specs.Option.{option_or}
 use Rattle.std.proofs.lemmas.List.{length-map}
-use Rattle.lt_model.specs.Fair.{Feed}
-use Rattle.lt_model.specs.Key.{Range, below, in_range, max_key, ranges_from, same_key}
-use Rattle.lt_model.specs.Log.{Change, change_key}
-use Rattle.lt_model.specs.Machine.{Does, State, StreamAt, is_worn, numbered_from, part_misfit, part_of, ranges_of, refused, replies, split_key, split_parts, split_pending, was_split}
-use Rattle.lt_model.specs.Outside.{Memory, name_of}
-use Rattle.lt_model.specs.Query.{Literal}
-use Rattle.lt_model.specs.Reply as model
-use Rattle.lt_model.specs.Reply.{at_edge, bad_column, key_too_long, no_such_table, split_done, too_many_parts, worn, wrong_literal}
-use Rattle.lt_model.specs.Schema.{Catalogue, Table, table_named, when}
-use Rattle.lt_model.specs.Script.{do_split}
-use Rattle.lt_model.specs.Store.{Part, part_ranges}
-use Rattle.lt_laws.proofs.ListFacts.{all_filter, all_map}
+use Rattle.lt_world.specs.Feed.{Feed}
+use Rattle.lt_terms.specs.Key.{Range, below, in_range, max_key, ranges_from, same_key}
+use Rattle.lt_terms.specs.Log.{Change, change_key}
+use Rattle.lt_tables.specs.Pump.{StreamAt, numbered_from, part_of}
+use Rattle.lt_machine.specs.Machine.{Does, State, is_worn, part_misfit, ranges_of, refused, replies, split_key, split_parts, split_pending, was_split}
+use Rattle.lt_tables.specs.Pump.{name_of}
+use Rattle.lt_machine.specs.Sound.{Memory}
+use Rattle.lt_tables.specs.Query.{Literal}
+use Rattle.lt_words.specs.Reply as model
+use Rattle.lt_words.specs.Reply.{at_edge, bad_column, key_too_long, no_such_table, split_done, too_many_parts, worn, wrong_literal}
+use Rattle.lt_tables.specs.Schema.{Catalogue, Table, table_named, when}
+use Rattle.lt_tables.specs.Query.{do_split}
+use Rattle.lt_tables.specs.Pump.{Part}
+use Rattle.lt_storage.specs.Store.{part_ranges}
+use Rattle.lt_codecs.proofs.ListFacts.{all_map}
+use Rattle.lt_lemmas.proofs.ListFacts.{all_filter}
 use Rattle.lt_parts.specs.Parts.{IsSplit, edge_in, lows_of, ranges, split_fault}
 use Rattle.lt_parts.specs.declared.entry.PartEntry.{PartEntry}
 use Rattle.lt_parts.specs.declared.refusal.SplitRefusal.TheVariants as parts

@@ -2,18 +2,23 @@
 use Rattle.std.proofs.Common.{List, [], ap, ap₂, arith, length, refl, subst, sym, ◌∙◌, ◌∷◌, ◌≡◌, ◌≤◌}
 use Rattle.std.specs.Prelude.{IfSome, IsTrue, None, Option, Some, map, zip, ◌^◌}
 use Rattle.std.specs.List.{AllByRecursion}
-use Rattle.lt_model.specs.Disk.{DiskState}
-use Rattle.lt_model.specs.Fair.{AreShort, Feed}
-use Rattle.lt_model.specs.InMemory.{BeginsFresh, on_memory, session_over}
-use Rattle.lt_model.specs.Key.{Range}
-use Rattle.lt_model.specs.Log.{Header}
-use Rattle.lt_model.specs.Machine.{Job, State, StreamAt, behind_header, ranges_of, start_of}
-use Rattle.lt_model.specs.Outside.{AreAbove, BelongsTo, FeedState, IsKept, Memory, MemoryAbove, name_of}
-use Rattle.lt_model.specs.Run.{Attaches}
-use Rattle.lt_model.specs.Schema.{Catalogue}
-use Rattle.lt_model.specs.Sound.{HasPart, IsSoundFor, Session}
-use Rattle.lt_model.specs.Step.{NotStarted, Serves, Started}
-use Rattle.lt_model.specs.Store.{Durable, Part, Placing, Stream}
+use Rattle.lt_world.specs.Disk.{DiskState}
+use Rattle.lt_world.specs.Feed.{AreShort, Feed}
+use Rattle.lt_machine.specs.InMemory.{BeginsFresh, on_memory, session_over}
+use Rattle.lt_terms.specs.Key.{Range}
+use Rattle.lt_terms.specs.Log.{Header}
+use Rattle.lt_tables.specs.Pump.{StreamAt, behind_header}
+use Rattle.lt_machine.specs.Machine.{Job, State, ranges_of, start_of}
+use Rattle.lt_world.specs.Feed.{FeedState}
+use Rattle.lt_tables.specs.Pump.{name_of}
+use Rattle.lt_machine.specs.Outside.{AreAbove, BelongsTo, IsKept, MemoryAbove}
+use Rattle.lt_machine.specs.Sound.{Memory}
+use Rattle.lt_tables.specs.Pump.{Attaches}
+use Rattle.lt_tables.specs.Schema.{Catalogue}
+use Rattle.lt_machine.specs.Sound.{HasPart, IsSoundFor, Session}
+use Rattle.lt_machine.specs.Step.{NotStarted, Serves, Started}
+use Rattle.lt_tables.specs.Pump.{Part}
+use Rattle.lt_storage.specs.Store.{Durable, Placing, Stream}
 use Rattle.lt_parts.specs.declared.entry.PartEntry.{PartEntry}
 use Rattle.lt_pump.specs.Pumps.{AttachRefused, HasAttached, streams_of}
 use Rattle.lt_pump.specs.declared.refusal.AttachRefusal.{AttachRefusal}

@@ -6,14 +6,17 @@ use Rattle.std.specs.Option.{option_copied}
 use Rattle.std.proofs.lemmas.Bool.{and_parts}
 use Rattle.std.proofs.lemmas.List.{length-map, map-append, take_all, take_more}
 use Rattle.std.proofs.lemmas.Option.{get_or_from_slice_get, slice_get_within}
-use Rattle.lt_model.specs.declared.Format.TheVariants as format
-use Rattle.lt_model.specs.Key.{Range}
-use Rattle.lt_model.specs.Log.{header_item, is_item}
-use Rattle.lt_model.specs.Machine.{StreamAt, checkpoint_at, checkpoints, numbered_from, part_told, parts_told, with_pending}
-use Rattle.lt_model.specs.Outside.{Memory, name_of}
-use Rattle.lt_model.specs.Reply as model
-use Rattle.lt_model.specs.Schema.{Catalogue}
-use Rattle.lt_model.specs.Store.{Part, part_ranges}
+use Rattle.lt_terms.specs.declared.Format.TheVariants as format
+use Rattle.lt_terms.specs.Key.{Range}
+use Rattle.lt_terms.specs.Log.{header_item, is_item}
+use Rattle.lt_tables.specs.Pump.{StreamAt, numbered_from}
+use Rattle.lt_machine.specs.Machine.{checkpoint_at, checkpoints, part_told, parts_told, with_pending}
+use Rattle.lt_tables.specs.Pump.{name_of}
+use Rattle.lt_machine.specs.Sound.{Memory}
+use Rattle.lt_words.specs.Reply as model
+use Rattle.lt_tables.specs.Schema.{Catalogue}
+use Rattle.lt_tables.specs.Pump.{Part}
+use Rattle.lt_storage.specs.Store.{part_ranges}
 use Rattle.lt_parts.specs.Parts.{checkpoints_of}
 use Rattle.lt_parts.specs.declared.entry.PartEntry.{PartEntry}
 use Rattle.lt_pending.specs.Held.{held_in}

@@ -3,19 +3,22 @@ use Rattle.std.proofs.Common.{List, [], ap, ap₂, append-nil, arith, false, inl
 use Rattle.std.proofs.KnownBytes.{Appends-nil}
 use Rattle.std.proofs.lemmas.Bool.{false≢true}
 use Rattle.std.specs.Prelude.{Err, IfErr, IfOk, IfSome, IsTrue, None, Ok, OnOk, Option, Result, Some}
-use Rattle.lt_model.specs.Disk.{DiskState}
-use Rattle.lt_model.specs.Fair.{Feed}
-use Rattle.lt_model.specs.InMemory.{memory_causes, on_memory}
-use Rattle.lt_model.specs.Log.{Change, Header, Item}
-use Rattle.lt_model.specs.Machine.{Answer, Does, DoesOver, State, Step, StepBy, cat_of, is_reopen, ranges_of, refused, refuses, replies, split_key}
-use Rattle.lt_model.specs.Outside.{BelongsTo, Causes, FeedGoes, FeedState, GivenUpTo, IsKept, Memory, MemoryAbove, RowSinkGoes, RowSinkState, StaysBut, World, WorldGoes, caused_by, counts_at, world_of}
-use Rattle.lt_model.specs.Query.{Literal}
-use Rattle.lt_model.specs.Reply as model
-use Rattle.lt_model.specs.Run.{Answers, FaultsIn, Shows, calls_feed, is_fault, may_end_in}
-use Rattle.lt_model.specs.Script.{Command, do_retire, do_schema, do_split, do_status}
-use Rattle.lt_model.specs.Sound.{Fronts, Session, source_of}
-use Rattle.lt_model.specs.Step.{RefusesAs, Served, Serves, Stepped, held_changes}
-use Rattle.lt_model.specs.Value.{Value}
+use Rattle.lt_world.specs.Disk.{DiskState}
+use Rattle.lt_world.specs.Feed.{Feed}
+use Rattle.lt_machine.specs.InMemory.{memory_causes, on_memory}
+use Rattle.lt_terms.specs.Log.{Change, Header, Item}
+use Rattle.lt_machine.specs.Machine.{Answer, Does, DoesOver, State, Step, StepBy, cat_of, is_reopen, ranges_of, refused, refuses, replies, split_key}
+use Rattle.lt_world.specs.Feed.{FeedGoes, FeedState}
+use Rattle.lt_world.specs.RowSink.{RowSinkGoes, RowSinkState}
+use Rattle.lt_machine.specs.Outside.{BelongsTo, Causes, GivenUpTo, IsKept, MemoryAbove, StaysBut, World, WorldGoes, caused_by, counts_at, world_of}
+use Rattle.lt_machine.specs.Sound.{Memory}
+use Rattle.lt_tables.specs.Query.{Literal}
+use Rattle.lt_words.specs.Reply as model
+use Rattle.lt_machine.specs.Run.{Answers, FaultsIn, Shows, calls_feed, is_fault, may_end_in}
+use Rattle.lt_tables.specs.Query.{Command, do_retire, do_schema, do_split, do_status}
+use Rattle.lt_machine.specs.Sound.{Fronts, Session, source_of}
+use Rattle.lt_machine.specs.Step.{RefusesAs, Served, Serves, Stepped, held_changes}
+use Rattle.lt_terms.specs.Value.{Value}
 use Rattle.lt_reply.specs.View.{IsSpoken, view_refusal, view_reply}
 use Rattle.lt_reply.specs.declared.refusal.Refusal.{Refusal}
 use Rattle.lt_reply.specs.declared.reply.Reply.{Reply}

@@ -5,17 +5,19 @@ use Rattle.std.specs.Result.{IsErrAnd}
 use Rattle.std.proofs.lemmas.Bool.{cases_lt}
 use Rattle.std.proofs.lemmas.List.{length-map}
 use Rattle.std.proofs.lemmas.Option.{same_Some}
-use Rattle.lt_model.specs.Disk.{Rose}
-use Rattle.lt_model.specs.Fair.{Feed}
-use Rattle.lt_model.specs.Key.{Range}
-use Rattle.lt_model.specs.Log.{Change, Item, changes_of, is_item}
-use Rattle.lt_model.specs.declared.Format.{Format}
-use Rattle.lt_model.specs.declared.Format.TheVariants as format
-use Rattle.lt_model.specs.Machine.{AreFair, Does, PumpsFair, StreamAt, Stops, Takes, moved_by, refused, replies, with_items}
-use Rattle.lt_model.specs.Outside.{FeedState, Memory}
-use Rattle.lt_model.specs.Reply as model
-use Rattle.lt_model.specs.Schema.{Catalogue}
-use Rattle.lt_model.specs.Script.{do_pump}
+use Rattle.lt_world.specs.Disk.{Rose}
+use Rattle.lt_world.specs.Feed.{Feed}
+use Rattle.lt_terms.specs.Key.{Range}
+use Rattle.lt_terms.specs.Log.{Change, Item, changes_of, is_item}
+use Rattle.lt_terms.specs.declared.Format.{Format}
+use Rattle.lt_terms.specs.declared.Format.TheVariants as format
+use Rattle.lt_tables.specs.Pump.{StreamAt, Stops, Takes, moved_by}
+use Rattle.lt_machine.specs.Machine.{AreFair, Does, PumpsFair, refused, replies, with_items}
+use Rattle.lt_world.specs.Feed.{FeedState}
+use Rattle.lt_machine.specs.Sound.{Memory}
+use Rattle.lt_words.specs.Reply as model
+use Rattle.lt_tables.specs.Schema.{Catalogue}
+use Rattle.lt_tables.specs.Query.{do_pump}
 use Rattle.lt_parts.specs.declared.entry.PartEntry.{PartEntry}
 use Rattle.lt_pump.specs.Given.{AreBehind, all_given}
 use Rattle.lt_pump.specs.Positions as positions

@@ -2,12 +2,12 @@
 use Rattle.std.specs.Prelude.{Err, List, Ok, Option, Result, Some, [], false, is_none, not, option_map, true, ℕ, ◌+◌, ◌∷◌, ◌≡◌}
 use Rattle.std.specs.Option.{option_map_or}
 use Rattle.std.specs.Borrow.{Bor}
-use Rattle.lt_model.specs.Machine.{error_of, registered_named}
-use Rattle.lt_model.specs.Reply as model
-use Rattle.lt_model.specs.Reply.{no_such_table, no_such_version, version_retired}
-use Rattle.lt_model.specs.Schema as schema
-use Rattle.lt_model.specs.Schema.{Catalogue, IsCatalogue, Registered, Table, first_of, registered, schema_fault, table_named, table_numbered, when, whole_version}
-use Rattle.lt_model.specs.SchemaText.{version_of_text}
+use Rattle.lt_machine.specs.Machine.{error_of, registered_named}
+use Rattle.lt_words.specs.Reply as model
+use Rattle.lt_words.specs.Reply.{no_such_table, no_such_version, version_retired}
+use Rattle.lt_tables.specs.Schema as schema
+use Rattle.lt_tables.specs.Schema.{Catalogue, IsCatalogue, Registered, Table, first_of, registered, schema_fault, table_named, table_numbered, when, whole_version}
+use Rattle.lt_words.specs.SchemaText.{version_of_text}
 use Rattle.lt_schema.specs.View.{view_version}
 use Rattle.lt_schema.specs.declared.version.SchemaVersion.{SchemaVersion}
 use Rattle.lt_pump.specs.Pumps.{streams_of}

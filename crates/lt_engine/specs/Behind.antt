@@ -1,11 +1,11 @@
 -- What is held stays behind the streams, as a truth value.
 use Rattle.std.specs.Prelude.{Bool, List, nat_le, not, ◌||◌}
 use Rattle.std.specs.List.{list_all}
-use Rattle.lt_model.specs.Fair.{window_ts}
-use Rattle.lt_model.specs.Key.{in_range}
-use Rattle.lt_model.specs.Log.{Change, change_key}
-use Rattle.lt_model.specs.Machine.{StreamAt}
-use Rattle.lt_model.specs.Outside.{Memory}
+use Rattle.lt_tables.specs.Fair.{window_ts}
+use Rattle.lt_terms.specs.Key.{in_range}
+use Rattle.lt_terms.specs.Log.{Change, change_key}
+use Rattle.lt_tables.specs.Pump.{StreamAt}
+use Rattle.lt_machine.specs.Sound.{Memory}
 
 -- a change of the stream's keys is not above its checkpoint, or not above what its window keeps of the key
 abbrev pub is_behind : StreamAt → Change → Bool

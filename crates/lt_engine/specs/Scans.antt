@@ -1,14 +1,15 @@
 -- What the parts of a scan answer: whether it is safe, the rows of what is held, and how many of them a sink took.
 use Rattle.std.specs.Prelude.{Err, List, None, Option, Some, [], option_map, take, ℕ, ◌+◌, ◌++◌, ◌∷◌, ◌≡◌, ◌⊎◌}
-use Rattle.lt_model.specs.Key.{Range, key_bytes}
-use Rattle.lt_model.specs.Machine.{State, first_below}
-use Rattle.lt_model.specs.Outside.{Given, GivenUpTo, RowSinkState}
-use Rattle.lt_model.specs.Reply as model
+use Rattle.lt_terms.specs.Key.{Range, key_bytes}
+use Rattle.lt_machine.specs.Machine.{State, first_below}
+use Rattle.lt_world.specs.RowSink.{Given, RowSinkState}
+use Rattle.lt_machine.specs.Outside.{GivenUpTo}
+use Rattle.lt_words.specs.Reply as model
 use Rattle.lt_command.specs.declared.command.Query.{Query}
-use Rattle.lt_model.specs.Query as queries
-use Rattle.lt_model.specs.Schema.{SchemaVersion, Table, table_numbered}
-use Rattle.lt_model.specs.Script.{plain_query}
-use Rattle.lt_model.specs.Value.{Value}
+use Rattle.lt_tables.specs.Query as queries
+use Rattle.lt_tables.specs.Schema.{SchemaVersion, Table, table_numbered}
+use Rattle.lt_words.specs.Script.{plain_query}
+use Rattle.lt_terms.specs.Value.{Value}
 use Rattle.lt_rows.specs.Scans.{AreShaped, RiseByKey, scan_rows}
 use Rattle.lt_io.specs.declared.row_sink.RowRefusal.{RowRefusal}
 use Rattle.lt_io.specs.declared.row_sink.RowRefusal.TheVariants as rows

@@ -1,8 +1,9 @@
 -- The checkpoints of the partitions, as the streams say.
 use Rattle.std.specs.Prelude.{List, Some, [], map, slice_get, zip, ℕ, ◌≡◌}
-use Rattle.lt_model.specs.Key.{Range}
-use Rattle.lt_model.specs.Machine.{StreamAt, checkpoint_at}
-use Rattle.lt_model.specs.Store.{Part}
+use Rattle.lt_terms.specs.Key.{Range}
+use Rattle.lt_tables.specs.Pump.{StreamAt}
+use Rattle.lt_machine.specs.Machine.{checkpoint_at}
+use Rattle.lt_tables.specs.Pump.{Part}
 use Rattle.lt_parts.specs.Parts.{checkpoints_of, ranges}
 use Rattle.lt_parts.specs.declared.entry.PartEntry.{PartEntry}
 

@@ -1,14 +1,14 @@
 -- How the key of a split is found, and what is parted there.
 use Rattle.std.specs.Prelude.{List, None, Option, Some, [], codes, filter, is_none, length, nat_le, nat_lt, not, option_and_then, option_map, suc, zero, ℕ, ◌==◌, ◌∷◌, ◌≡◌}
 use Rattle.std.specs.Option.{option_or}
-use Rattle.lt_model.specs.Key.{below, max_key}
-use Rattle.lt_model.specs.Log.{change_key}
-use Rattle.lt_model.specs.Machine.{part_misfit, split_key}
-use Rattle.lt_model.specs.Outside.{Memory}
-use Rattle.lt_model.specs.Query.{Literal, bound}
-use Rattle.lt_model.specs.Reply as model
-use Rattle.lt_model.specs.Reply.{at_edge, bad_column, key_too_long, no_such_table, too_many_parts, wrong_literal}
-use Rattle.lt_model.specs.Schema.{Catalogue, KeyColumn, SchemaVersion, Table, first_of, key_kinds, table_named, when}
+use Rattle.lt_terms.specs.Key.{below, max_key}
+use Rattle.lt_terms.specs.Log.{change_key}
+use Rattle.lt_machine.specs.Machine.{part_misfit, split_key}
+use Rattle.lt_machine.specs.Sound.{Memory}
+use Rattle.lt_tables.specs.Query.{Literal, bound}
+use Rattle.lt_words.specs.Reply as model
+use Rattle.lt_words.specs.Reply.{at_edge, bad_column, key_too_long, no_such_table, too_many_parts, wrong_literal}
+use Rattle.lt_tables.specs.Schema.{Catalogue, KeyColumn, SchemaVersion, Table, first_of, key_kinds, table_named, when}
 use Rattle.lt_parts.specs.Parts.{edge_in}
 use Rattle.lt_parts.specs.declared.entry.PartEntry.{PartEntry}
 

@@ -1,11 +1,14 @@
 -- What a replica stands for: a session, whose state is the machine's, with what it holds in memory.
 use Rattle.std.specs.Prelude.{List, None, Option, Some, [], length, map, ℕ, ◌^◌, ◌≡◌, ◌≤◌}
-use Rattle.lt_model.specs.Machine.{State, StreamAt}
-use Rattle.lt_model.specs.Outside.{FeedState, Memory, name_of}
-use Rattle.lt_model.specs.Run.{StartFault, no_store, start_damaged, start_disk, start_feed, start_mismatch, store_there}
-use Rattle.lt_model.specs.Schema.{Catalogue}
-use Rattle.lt_model.specs.Sound.{Session}
-use Rattle.lt_model.specs.Store.{Durable}
+use Rattle.lt_tables.specs.Pump.{StreamAt}
+use Rattle.lt_machine.specs.Machine.{State}
+use Rattle.lt_world.specs.Feed.{FeedState}
+use Rattle.lt_tables.specs.Pump.{name_of}
+use Rattle.lt_machine.specs.Sound.{Memory}
+use Rattle.lt_machine.specs.Run.{StartFault, no_store, start_damaged, start_disk, start_feed, start_mismatch, store_there}
+use Rattle.lt_tables.specs.Schema.{Catalogue}
+use Rattle.lt_machine.specs.Sound.{Session}
+use Rattle.lt_storage.specs.Store.{Durable}
 use Rattle.lt_parts.specs.declared.entry.PartEntry.{PartEntry}
 use Rattle.lt_pending.specs.Held.{held_in}
 use Rattle.lt_pump.specs.Pumps.{streams_of}

@@ -1,14 +1,14 @@
 -- What a command does to a replica, by the state and the memory that it holds: from this follows what a step did.
 use Rattle.std.specs.Prelude.{IfErr, IfOk, IfSome, IsTrue, List, None, Result, Some, [], false, ◌≡◌, ◌⊎◌}
-use Rattle.lt_model.specs.Fair.{Feed}
-use Rattle.lt_model.specs.InMemory.{memory_causes, on_memory}
-use Rattle.lt_model.specs.Machine.{DoesOver, is_reopen, query_of, refused, replies}
-use Rattle.lt_model.specs.Outside.{BelongsTo, GivenUpTo, MemoryAbove, StaysBut, World, caused_by, counts_at}
-use Rattle.lt_model.specs.Run.{Answers, Shows, is_fault, may_end_in}
-use Rattle.lt_model.specs.Script.{Command}
-use Rattle.lt_model.specs.Sound.{Session}
-use Rattle.lt_model.specs.Step.{BreaksIn, RefusesAs, Stepped, held_changes}
-use Rattle.lt_model.specs.Value.{Value}
+use Rattle.lt_world.specs.Feed.{Feed}
+use Rattle.lt_machine.specs.InMemory.{memory_causes, on_memory}
+use Rattle.lt_machine.specs.Machine.{DoesOver, is_reopen, query_of, refused, replies}
+use Rattle.lt_machine.specs.Outside.{BelongsTo, GivenUpTo, MemoryAbove, StaysBut, World, caused_by, counts_at}
+use Rattle.lt_machine.specs.Run.{Answers, Shows, is_fault, may_end_in}
+use Rattle.lt_tables.specs.Query.{Command}
+use Rattle.lt_machine.specs.Sound.{Session}
+use Rattle.lt_machine.specs.Step.{BreaksIn, RefusesAs, Stepped, held_changes}
+use Rattle.lt_terms.specs.Value.{Value}
 use Rattle.lt_reply.specs.declared.refusal.Refusal.{Refusal}
 use Rattle.lt_reply.specs.declared.reply.Reply.{Reply}
 use Rattle.lt_engine.specs.State.{StandsFor, memory_of, state_of}

@@ -1,18 +1,22 @@
 -- What a step does: what it answers, and what it leaves.
 use Rattle.std.specs.Prelude.{Err, IfSome, IsTrue, List, None, Ok, Option, Result, Some, [], length, take, ℕ, ⊤, ◌+◌, ◌++◌, ◌<◌, ◌∷◌, ◌≡◌, ◌⊎◌}
 use Rattle.std.specs.List.{AllByRecursion}
-use Rattle.lt_model.specs.declared.Format.TheVariants as format
-use Rattle.lt_model.specs.Disk.{Rose}
-use Rattle.lt_model.specs.Fair.{Feed}
-use Rattle.lt_model.specs.Log.{Change, Item, changes_of, is_item}
-use Rattle.lt_model.specs.Machine.{AreFair, Answer, Does, DoesOver, Scans, StreamAt, Takes, cat_of, ranges_of, refused, replies, split_key, stream_at, with_items}
-use Rattle.lt_model.specs.Outside.{BelongsTo, FeedState, Given, GivenUpTo, Memory, RowSinkState}
-use Rattle.lt_model.specs.Query.{Literal, Query}
-use Rattle.lt_model.specs.Reply as model
-use Rattle.lt_model.specs.Schema.{Table, table_named}
-use Rattle.lt_model.specs.Script.{Command, do_pump, do_scan, do_split}
-use Rattle.lt_model.specs.Sound.{source_of}
-use Rattle.lt_model.specs.Value.{Value}
+use Rattle.lt_terms.specs.declared.Format.TheVariants as format
+use Rattle.lt_world.specs.Disk.{Rose}
+use Rattle.lt_world.specs.Feed.{Feed}
+use Rattle.lt_terms.specs.Log.{Change, Item, changes_of, is_item}
+use Rattle.lt_tables.specs.Pump.{StreamAt, Takes}
+use Rattle.lt_machine.specs.Machine.{AreFair, Answer, Does, DoesOver, Scans, cat_of, ranges_of, refused, replies, split_key, stream_at, with_items}
+use Rattle.lt_world.specs.Feed.{FeedState}
+use Rattle.lt_world.specs.RowSink.{Given, RowSinkState}
+use Rattle.lt_machine.specs.Outside.{BelongsTo, GivenUpTo}
+use Rattle.lt_machine.specs.Sound.{Memory}
+use Rattle.lt_tables.specs.Query.{Literal, Query}
+use Rattle.lt_words.specs.Reply as model
+use Rattle.lt_tables.specs.Schema.{Table, table_named}
+use Rattle.lt_tables.specs.Query.{Command, do_pump, do_scan, do_split}
+use Rattle.lt_machine.specs.Sound.{source_of}
+use Rattle.lt_terms.specs.Value.{Value}
 use Rattle.lt_pump.specs.Given.{all_given}
 use Rattle.lt_reply.specs.View.{IsSpoken, view_refusal, view_reply}
 use Rattle.lt_reply.specs.declared.refusal.Refusal.{Refusal}

@@ -25,6 +25,3 @@ pub use lt_scan::{RowRefusal, RowSink};
 pub use lt_schema::Catalogue;
 pub use refusal::StartRefusal;
 pub use replica::Replica;
-
-#[cfg(test)]
-mod tests;

@@ -1,10 +1,10 @@
 //! The command that pumps a stream.
 
 ghost use Rattle.std.specs.Prelude.{◌≡◌, ◌<◌, ◌≤◌, ◌++◌, ◌∷◌, ◌↔◌, [], List, None, IfErr, IfOk, IfSome, IsErrOf, OnErr, OnOk, length, map as mapped, slice_get, zip};
-ghost use Rattle.lt_model.specs.Disk.{Rose};
+ghost use Rattle.lt_world.specs.Disk.{Rose};
 ghost use Rattle.lt_parts.specs.Parts.{AreParts, ranges};
 ghost use Rattle.lt_pending.specs.Held.{held_in};
-ghost use Rattle.lt_model.specs.Outside.{FeedGoes};
+ghost use Rattle.lt_world.specs.Feed.{FeedGoes};
 ghost use Rattle.lt_pump.specs.Given.{AreAllBehind, AreSubscriptions};
 ghost use Rattle.lt_pump.specs.Pumps.{HasPumped, HasPumpedSome, streams_of};
 ghost use Rattle.lt_pump.specs.View.{view_pumped, view_subscription};
@@ -37,7 +37,8 @@ impl Replica {
         requires known { length (streams_of self.old.pump) ≤ (F.state feed.old).known }
         ensures pumped { IfOk result (HasTaken (F.state feed.new).told self.old self.new stream count) }
         ensures called { OnOk result (0 < count → Rose (F.state feed.old).calls (F.state feed.new).calls) }
-        ensures refused { IfErr result (PumpFails (F.state feed.old) (F.state feed.new) self.old self.new stream count) }
+        ensures refused { IfErr result (PumpFails (F.state feed.old) (F.state feed.new) self.old self.new stream
+            count) }
         ensures kept { OnOk result ((F.state feed.new).faults ≡ (F.state feed.old).faults) }
         ensures streams { length (streams_of self.new.pump) ≡ length (streams_of self.old.pump) }
         ensures feed { FeedGoes (F.state feed.old) (F.state feed.new) }
@@ -60,14 +61,21 @@ impl Replica {
         subs: &Subscriptions,
     ) -> Result<Pumped, PumpFault>
         requires known { length (streams_of self.old.pump) ≤ (F.state feed.old).known }
-        requires subs { mapped view_subscription subs.now ≡ zip (ranges self.old.map) (mapped (λ e. e.resume) self.old.map) }
+        requires subs { mapped view_subscription subs.now ≡ zip (ranges self.old.map)
+            (mapped (λ e. e.resume) self.old.map) }
         requires lawful { AreParts self.old.map }
-        ensures pumped { IfOk result (HasPumped (F.state feed.new).told self.old.catalogue stream count (mapped view_subscription subs.now) (streams_of self.old.pump) (streams_of self.new.pump) (memory_of self.old) (memory_of self.new)) }
-        ensures some { stream < length (streams_of self.old.pump) → OnErr result (HasPumpedSome (F.state feed.new).told self.old.catalogue stream count (mapped view_subscription subs.now) (streams_of self.old.pump) (streams_of self.new.pump) (memory_of self.old) (memory_of self.new)) }
+        ensures pumped { IfOk result (HasPumped (F.state feed.new).told self.old.catalogue stream count
+            (mapped view_subscription subs.now) (streams_of self.old.pump) (streams_of self.new.pump)
+            (memory_of self.old) (memory_of self.new)) }
+        ensures some { stream < length (streams_of self.old.pump)
+            → OnErr result (HasPumpedSome (F.state feed.new).told self.old.catalogue stream count
+            (mapped view_subscription subs.now) (streams_of self.old.pump) (streams_of self.new.pump)
+            (memory_of self.old) (memory_of self.new)) }
         ensures stays { KeepsParts self.old self.new }
         ensures streams { length (streams_of self.new.pump) ≡ length (streams_of self.old.pump) }
         ensures no_stream { IsErrOf result PumpFault.NoStream ↔ (length (streams_of self.old.pump) ≤ stream) }
-        ensures untouched { length (streams_of self.old.pump) ≤ stream → (feed.new ≡ feed.old) × Stays self.old self.new }
+        ensures untouched { length (streams_of self.old.pump) ≤ stream → (feed.new ≡ feed.old)
+            × Stays self.old self.new }
         ensures fault { IsErrOf result PumpFault.Feed → Rose (F.state feed.old).faults (F.state feed.new).faults }
         ensures kept { OnOk result ((F.state feed.new).faults ≡ (F.state feed.old).faults) }
         ensures lacks { IsErrOf result PumpFault.Memory → (F.state feed.new).faults ≡ (F.state feed.old).faults }
@@ -89,7 +97,8 @@ impl Replica {
 
     /// The keys of each partition, and up to when it is durable.
     fn subscriptions(&self) -> Result<Subscriptions, Memory>
-        ensures subs { IfOk result (λ subs. mapped view_subscription subs ≡ zip (ranges self.now.map) (mapped (λ e. e.resume) self.now.map)) }
+        ensures subs { IfOk result (λ subs. mapped view_subscription subs ≡ zip (ranges self.now.map)
+            (mapped (λ e. e.resume) self.now.map)) }
         ensures lawful { AreParts self.now.map }
     {
         let mut subs = Subscriptions::new(self.allocator());
@@ -114,13 +123,20 @@ fn pump_into<F: Feed>(
     requires known { length (streams_of pump.old) ≤ (F.state feed.old).known }
     requires subs { AreSubscriptions (mapped view_subscription subs.now) (mapped held_in parts.old.items) }
     requires behind { AreAllBehind (streams_of pump.old) (mapped held_in parts.old.items) }
-    ensures pumped { IfOk result (HasPumped (F.state feed.new).told catalogue.now stream count (mapped view_subscription subs.now) (streams_of pump.old) (streams_of pump.new) (mapped held_in parts.old.items) (mapped held_in parts.new.items)) }
-    ensures some { stream < length (streams_of pump.old) → OnErr result (HasPumpedSome (F.state feed.new).told catalogue.now stream count (mapped view_subscription subs.now) (streams_of pump.old) (streams_of pump.new) (mapped held_in parts.old.items) (mapped held_in parts.new.items)) }
+    ensures pumped { IfOk result (HasPumped (F.state feed.new).told catalogue.now stream count
+        (mapped view_subscription subs.now) (streams_of pump.old) (streams_of pump.new)
+        (mapped held_in parts.old.items) (mapped held_in parts.new.items)) }
+    ensures some { stream < length (streams_of pump.old)
+        → OnErr result (HasPumpedSome (F.state feed.new).told catalogue.now stream count
+        (mapped view_subscription subs.now) (streams_of pump.old) (streams_of pump.new)
+        (mapped held_in parts.old.items) (mapped held_in parts.new.items)) }
     ensures behind { AreAllBehind (streams_of pump.new) (mapped held_in parts.new.items) }
     ensures streams { length (streams_of pump.new) ≡ length (streams_of pump.old) }
     ensures lists { length parts.new.items ≡ length parts.old.items }
     ensures no_stream { IsErrOf result PumpFault.NoStream ↔ (length (streams_of pump.old) ≤ stream) }
-    ensures untouched { length (streams_of pump.old) ≤ stream → (feed.new ≡ feed.old) × (streams_of pump.new ≡ streams_of pump.old) × (mapped held_in parts.new.items ≡ mapped held_in parts.old.items) }
+    ensures untouched { length (streams_of pump.old) ≤ stream → (feed.new ≡ feed.old)
+        × (streams_of pump.new ≡ streams_of pump.old)
+        × (mapped held_in parts.new.items ≡ mapped held_in parts.old.items) }
     ensures fault { IsErrOf result PumpFault.Feed → Rose (F.state feed.old).faults (F.state feed.new).faults }
     ensures kept { OnOk result ((F.state feed.new).faults ≡ (F.state feed.old).faults) }
     ensures lacks { IsErrOf result PumpFault.Memory → (F.state feed.new).faults ≡ (F.state feed.old).faults }
@@ -140,7 +156,8 @@ fn pump_into<F: Feed>(
 /// Adds the keys of a partition, and up to when it is durable.
 fn add_subscription(map: &PartMap, part: usize, subs: &mut Subscriptions) -> Result<(), Memory>
     requires { part < length map.now }
-    ensures { OnOk result (IfSome (slice_get (zip (ranges map.now) (mapped (λ e. e.resume) map.now)) part) (λ s. mapped view_subscription subs.new ≡ mapped view_subscription subs.old ++ s ∷ [])) }
+    ensures { OnOk result (IfSome (slice_get (zip (ranges map.now) (mapped (λ e. e.resume) map.now)) part)
+        (λ s. mapped view_subscription subs.new ≡ mapped view_subscription subs.old ++ s ∷ [])) }
 {
     let Some(entry) = map.get(part) else {
         return Ok(());

@@ -5,9 +5,9 @@
 ghost use Rattle.std.specs.Prelude.{◌≡◌, ◌<◌, ◌≤◌, ◌+◌, ◌&&◌, not, IfNone, IfOk, IfSome, Some, length, map as mapped, min, slice_get};
 ghost use Rattle.std.specs.Option.{option_copied, option_map_or};
 ghost use Rattle.lt_core.specs.View.{view_range};
-ghost use Rattle.lt_model.specs.Key.{greater_low, is_below_high, lesser_high, meets as ranges_meet};
-ghost use Rattle.lt_model.specs.Machine.{checkpoints_meeting, least as least_in};
-ghost use Rattle.lt_model.specs.Schema.{when};
+ghost use Rattle.lt_terms.specs.Key.{greater_low, is_below_high, lesser_high, meets as ranges_meet};
+ghost use Rattle.lt_machine.specs.Machine.{checkpoints_meeting, least as least_in};
+ghost use Rattle.lt_tables.specs.Schema.{when};
 ghost use Rattle.lt_parts.specs.Parts.{interval, ranges};
 ghost use Rattle.lt_pump.specs.Pumps.{streams_of};
 ghost use Rattle.lt_engine.specs.Settling.{AreSettled, HasTimes, part_of_entry};
@@ -81,7 +81,9 @@ fn least_meeting(pump: &Pump, low: &[u8], high: Option<&[u8]>) -> Ts
 /// The checkpoint of a stream, if it meets the keys from `low` to before `high`.
 fn checkpoint_meeting(pump: &Pump, stream: usize, low: &[u8], high: Option<&[u8]>) -> Option<Ts>
     requires { stream < length (streams_of pump.now) }
-    ensures { IfSome (slice_get (streams_of pump.now) stream) (λ a. result ≡ when (ranges_meet a.header.range (interval low.now high.entry) && not a.closed) a.point.checkpoint) }
+    ensures { IfSome (slice_get (streams_of pump.now) stream)
+        (λ a. result ≡ when (ranges_meet a.header.range (interval low.now high.entry) && not a.closed)
+        a.point.checkpoint) }
 {
     let lows = pump.lows().as_slice();
     let begin = lows[stream].as_slice();

@@ -37,10 +37,12 @@ pub struct Replica {
 
 impl Replica {
     ghost use Rattle.std.specs.Prelude.{◌≡◌, IfErr, IfOk};
-    ghost use Rattle.lt_model.specs.InMemory.{is_built, on_memory};
-    ghost use Rattle.lt_model.specs.Outside.{FeedGoes, WorldGoes, is_command, world_of};
-    ghost use Rattle.lt_model.specs.Sound.{Session};
-    ghost use Rattle.lt_model.specs.Step.{NotStarted, Started, Stepped};
+    ghost use Rattle.lt_words.specs.Lines.{is_built};
+    ghost use Rattle.lt_machine.specs.InMemory.{on_memory};
+    ghost use Rattle.lt_world.specs.Feed.{FeedGoes};
+    ghost use Rattle.lt_machine.specs.Outside.{WorldGoes, is_command, world_of};
+    ghost use Rattle.lt_machine.specs.Sound.{Session};
+    ghost use Rattle.lt_machine.specs.Step.{NotStarted, Started, Stepped};
     ghost use Rattle.lt_command.specs.View.{view_command};
     ghost use Rattle.lt_reply.specs.View.{IsSpoken};
     ghost use Rattle.lt_engine.specs.State.{IsFed, StandsFor, memory_of, state_of, view_start};
@@ -57,7 +59,8 @@ impl Replica {
             × Started on_memory (D.state disk.old) (D.state disk.new) (F.state feed.old) (F.state feed.new) x) }
 
         // None began, by its cause.
-        ensures refused { IfErr result (λ e. NotStarted on_memory (D.state disk.old) (D.state disk.new) (F.state feed.old) (F.state feed.new) (view_start e)) }
+        ensures refused { IfErr result (λ e. NotStarted on_memory (D.state disk.old) (D.state disk.new)
+            (F.state feed.old) (F.state feed.new) (view_start e)) }
 
         // The disk was not used, and the feed went on.
         ensures goes { (disk.new ≡ disk.old) × FeedGoes (F.state feed.old) (F.state feed.new) }
@@ -106,7 +109,8 @@ impl Replica {
         ensures spoken { IfErr result IsSpoken }
 
         // The disk was not used, and the feed and the row sink went on.
-        ensures goes { (disk.new ≡ disk.old) × WorldGoes (world_of (D.state disk.old) (F.state feed.old) (R.state rows.old))
+        ensures goes { (disk.new ≡ disk.old)
+            × WorldGoes (world_of (D.state disk.old) (F.state feed.old) (R.state rows.old))
             (world_of (D.state disk.new) (F.state feed.new) (R.state rows.new)) }
     {
         let _ = disk;

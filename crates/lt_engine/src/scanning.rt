@@ -2,10 +2,10 @@
 
 ghost use Rattle.std.specs.Prelude.{◌≡◌, ◌≤◌, ◌<◌, ◌+◌, ◌^◌, IfErr, IfOk, MatchResult, None, OnOk, Some, map};
 ghost use Rattle.lt_core.specs.View.{view_row};
-ghost use Rattle.lt_model.specs.Disk.{Rose};
-ghost use Rattle.lt_model.specs.Machine.{refused};
-ghost use Rattle.lt_model.specs.Outside.{RowSinkGoes};
-ghost use Rattle.lt_model.specs.Script.{do_scan};
+ghost use Rattle.lt_world.specs.Disk.{Rose};
+ghost use Rattle.lt_machine.specs.Machine.{refused};
+ghost use Rattle.lt_world.specs.RowSink.{RowSinkGoes};
+ghost use Rattle.lt_tables.specs.Query.{do_scan};
 ghost use Rattle.lt_reply.specs.View.{view_refusal};
 ghost use Rattle.lt_schema.specs.View.{view_version};
 ghost use Rattle.lt_engine.specs.Answers.{Finds};
@@ -70,7 +70,8 @@ impl Replica {
     /// Tests whether each partition that has keys of the table is safe at a timestamp.
     fn test_safe(&self, table: u32, at: Ts) -> Result<(), Refusal>
         requires { table + 1 < 2 ^ 32 }
-        ensures { MatchResult result (λ _. unsafe_at (state_of self.now) (table_keys table) at ≡ None) (Refuses (unsafe_at (state_of self.now) (table_keys table) at)) }
+        ensures { MatchResult result (λ _. unsafe_at (state_of self.now) (table_keys table) at ≡ None)
+            (Refuses (unsafe_at (state_of self.now) (table_keys table) at)) }
     {
         // What the length says of the partitions: they are few.
         let _count = self.map.len();
@@ -111,7 +112,8 @@ impl Replica {
 fn give<R: RowSink>(found: &List<Row>, rows: &mut R) -> Result<(), RowRefusal>
     ensures all { OnOk result (GivesAll (R.state rows.old) (R.state rows.new) (map view_row found.now)) }
     ensures some { IfErr result (GivesSome (R.state rows.old) (R.state rows.new) (map view_row found.now)) }
-    ensures cause { IfErr result (λ e. e ≡ RowRefusal.Fault → Rose (R.state rows.old).faults (R.state rows.new).faults) }
+    ensures cause { IfErr result (λ e. e ≡ RowRefusal.Fault
+        → Rose (R.state rows.old).faults (R.state rows.new).faults) }
     ensures lacks { IfErr result (λ e. e ≡ RowRefusal.Memory → (R.state rows.new).faults ≡ (R.state rows.old).faults) }
     ensures goes { RowSinkGoes (R.state rows.old) (R.state rows.new) }
 {

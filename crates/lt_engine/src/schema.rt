@@ -1,10 +1,10 @@
 //! The commands on versions: to add one, and to retire one.
 
 ghost use Rattle.std.specs.Prelude.{◌≡◌, ◌<◌, ◌-◌, ◌^◌, None, Ok, IfErr, IfOk, OnOk};
-ghost use Rattle.lt_model.specs.Machine.{refused};
-ghost use Rattle.lt_model.specs.Schema.{schema_fault, with_version};
-ghost use Rattle.lt_model.specs.SchemaText.{version_of_text};
-ghost use Rattle.lt_model.specs.Script.{do_retire, do_schema};
+ghost use Rattle.lt_machine.specs.Machine.{refused};
+ghost use Rattle.lt_tables.specs.Schema.{schema_fault, with_version};
+ghost use Rattle.lt_words.specs.SchemaText.{version_of_text};
+ghost use Rattle.lt_tables.specs.Query.{do_retire, do_schema};
 ghost use Rattle.lt_schema.specs.View.{view_version};
 ghost use Rattle.lt_engine.specs.Answers.{Commits, text_refusal, version_refusal};
 ghost use Rattle.lt_engine.specs.State.{memory_of, state_of};
@@ -21,7 +21,8 @@ impl Replica {
     /// Adds the version that a text spells.
     pub(crate) fn schema(&mut self, text: &[u8]) -> Result<Reply, Refusal>
         ensures done { IfOk result (λ reply. Done self.old self.new (do_schema text.now) reply (memory_of self.old)) }
-        ensures refused { IfErr result (λ e. Refuses (refused (state_of self.old) (do_schema text.now)) e × Stays self.old self.new) }
+        ensures refused { IfErr result (λ e. Refuses (refused (state_of self.old) (do_schema text.now)) e
+            × Stays self.old self.new) }
     {
         if self.generation == u64::MAX {
             return Err(Refusal::Worn);
@@ -38,8 +39,10 @@ impl Replica {
     /// Adds a version. An `Err` changes nothing.
     fn add(&mut self, version: SchemaVersion) -> Result<(), Refusal>
         requires { self.old.generation < 2 ^ 64 - 1 }
-        ensures ok { OnOk result ((schema_fault self.old.catalogue (view_version version) ≡ None) × Commits self.old self.new (with_version self.old.catalogue (view_version version))) }
-        ensures err { IfErr result (λ e. Refuses (version_refusal self.old.catalogue (view_version version)) e × Stays self.old self.new) }
+        ensures ok { OnOk result ((schema_fault self.old.catalogue (view_version version) ≡ None)
+            × Commits self.old self.new (with_version self.old.catalogue (view_version version))) }
+        ensures err { IfErr result (λ e. Refuses (version_refusal self.old.catalogue (view_version version)) e
+            × Stays self.old self.new) }
     {
         match self.catalogue.add(version) {
             Ok(()) => {
@@ -55,8 +58,10 @@ impl Replica {
 
     /// Retires a version of a table; the latest stays live.
     pub(crate) fn retire(&mut self, table: &Text, version: u32) -> Result<Reply, Refusal>
-        ensures done { IfOk result (λ reply. Done self.old self.new (do_retire table.now version) reply (memory_of self.old)) }
-        ensures refused { IfErr result (λ e. Refuses (refused (state_of self.old) (do_retire table.now version)) e × Stays self.old self.new) }
+        ensures done { IfOk result (λ reply. Done self.old self.new (do_retire table.now version) reply
+            (memory_of self.old)) }
+        ensures refused { IfErr result (λ e. Refuses (refused (state_of self.old) (do_retire table.now version)) e
+            × Stays self.old self.new) }
     {
         if self.generation == u64::MAX {
             return Err(Refusal::Worn);

@@ -4,11 +4,12 @@
 
 ghost use Rattle.std.specs.Prelude.{◌≡◌, ◌+◌, ◌<◌, ◌≤◌, IfErr, IfNone, IfOk, IfSome, None, OnErr, OnOk, codes, length, map, option_map};
 ghost use Rattle.lt_core.specs.View.{view_part, view_parts};
-ghost use Rattle.lt_model.specs.Machine.{part_misfit, part_of, refused};
-ghost use Rattle.lt_model.specs.Query.{bound, literal_part, parts_of};
-ghost use Rattle.lt_model.specs.Reply.{wrong_literal};
-ghost use Rattle.lt_model.specs.Schema.{key_kinds, table_named};
-ghost use Rattle.lt_model.specs.Script.{do_split};
+ghost use Rattle.lt_tables.specs.Pump.{part_of};
+ghost use Rattle.lt_machine.specs.Machine.{part_misfit, refused};
+ghost use Rattle.lt_tables.specs.Query.{bound, literal_part, parts_of};
+ghost use Rattle.lt_words.specs.Reply.{wrong_literal};
+ghost use Rattle.lt_tables.specs.Schema.{key_kinds, table_named};
+ghost use Rattle.lt_tables.specs.Query.{do_split};
 ghost use Rattle.lt_parts.specs.Parts.{IsSplit, ranges};
 ghost use Rattle.lt_pending.specs.Held.{held_in};
 ghost use Rattle.lt_pred.specs.View.{view_literal, view_literals};
@@ -19,7 +20,9 @@ ghost use Rattle.lt_engine.specs.Steps.{Refuses, Splits, Stays};
 
 use crate::ranges::settle;
 use crate::replica::Replica;
-use lt_core::{KeyBytes, KeyKind, KeyPart, KeyParts, MAX_KEY, Memory, Text, encode_prefix};
+use lt_core::{
+    KeyBytes, KeyKind, KeyPart, KeyParts, MAX_KEY, Memory, Text, TextRefusal, encode_prefix,
+};
 use lt_parts::{MAX_PARTS, PartMap, SplitRefusal};
 use lt_pending::Changes;
 use lt_pred::{Literal, Literals};
@@ -31,7 +34,9 @@ impl Replica {
     /// Splits the partition of a key there.
     pub(crate) fn split(&mut self, table: &Text, key: &Literals) -> Result<Reply, Refusal>
         ensures done { IfOk result (Splits self.old self.new table.now (view_literals key.now)) }
-        ensures refused { IfErr result (λ e. Refuses (refused (state_of self.old) (do_split table.now (view_literals key.now))) e × Stays self.old self.new) }
+        ensures refused { IfErr result (λ e. Refuses
+            (refused (state_of self.old) (do_split table.now (view_literals key.now))) e
+            × Stays self.old self.new) }
     {
         if self.generation == u64::MAX {
             return Err(Refusal::Worn);
@@ -109,9 +114,12 @@ fn key_of(
 /// The bytes of the key that literals spell for the table of a version.
 #[tactic(auto, using(crate::proofs::KeyOfLaws::not_as_many, crate::proofs::KeyOfLaws::first_misfit, crate::proofs::KeyOfLaws::too_long, crate::proofs::KeyOfLaws::no_fault))]
 fn key_in(alloc: Global, version: &SchemaVersion, literals: &Literals) -> Result<KeyBytes, Refusal>
-    ensures free { OnOk result (key_fault version.now.number (view_key version.now.key) (view_literals literals.now) ≡ None) }
-    ensures key { IfOk result (λ key. key ≡ bound version.now.number (key_kinds (view_key version.now.key)) (view_literals literals.now)) }
-    ensures refused { IfErr result (Refuses (key_fault version.now.number (view_key version.now.key) (view_literals literals.now))) }
+    ensures free { OnOk result (key_fault version.now.number (view_key version.now.key) (view_literals literals.now)
+        ≡ None) }
+    ensures key { IfOk result (λ key. key ≡ bound version.now.number (key_kinds (view_key version.now.key))
+        (view_literals literals.now)) }
+    ensures refused { IfErr result (Refuses
+        (key_fault version.now.number (view_key version.now.key) (view_literals literals.now))) }
 {
     if literals.len() != version.key.len() {
         return Err(Refusal::BadColumn {
@@ -133,7 +141,8 @@ fn word_of_key(alloc: Global) -> Result<Text, Memory>
 {
     match Text::from_slice(alloc, b"key") {
         Ok(word) => Ok(word),
-        Err(_) => Err(Memory),
+        Err(TextRefusal::Memory) => Err(Memory),
+        Err(TextRefusal::NotUtf8) => unreachable!(),
     }
 }
 
@@ -152,8 +161,10 @@ fn first_version<'a>(catalogue: &'a Catalogue, table: &Text) -> Option<&'a Schem
 fn parts_in(alloc: Global, columns: &KeyColumns, literals: &Literals) -> Result<KeyParts, Refusal>
     requires { length literals.now ≡ length columns.now }
     ensures fit { OnOk result (part_misfit (view_key columns.now) (view_literals literals.now) ≡ None) }
-    ensures parts { IfOk result (λ parts. view_parts parts ≡ parts_of (key_kinds (view_key columns.now)) (view_literals literals.now)) }
-    ensures refused { IfErr result (Refuses (option_map wrong_literal (part_misfit (view_key columns.now) (view_literals literals.now)))) }
+    ensures parts { IfOk result (λ parts. view_parts parts ≡ parts_of (key_kinds (view_key columns.now))
+        (view_literals literals.now)) }
+    ensures refused { IfErr result (Refuses
+        (option_map wrong_literal (part_misfit (view_key columns.now) (view_literals literals.now)))) }
 {
     let mut parts = KeyParts::new(alloc);
     for (column, literal) in columns.as_slice().iter().zip(literals.as_slice()) {

@@ -1,8 +1,8 @@
 //! The command that tells where the partitions and the streams stand, in time linear in both.
 
 ghost use Rattle.std.specs.Prelude.{◌≡◌, IfErr, IfOk};
-ghost use Rattle.lt_model.specs.Machine.{parts_told, refused, streams_told};
-ghost use Rattle.lt_model.specs.Script.{do_status};
+ghost use Rattle.lt_machine.specs.Machine.{parts_told, refused, streams_told};
+ghost use Rattle.lt_tables.specs.Query.{do_status};
 ghost use Rattle.lt_reply.specs.View.{view_parts, view_streams};
 ghost use Rattle.lt_engine.specs.State.{memory_of, state_of};
 ghost use Rattle.lt_engine.specs.Steps.{Done, Refuses, Stays};
@@ -15,7 +15,8 @@ impl Replica {
     /// Tells of each partition and each stream.
     pub(crate) fn status(&self) -> Result<Reply, Refusal>
         ensures done { IfOk result (λ reply. Done self.now self.now do_status reply (memory_of self.now)) }
-        ensures refused { IfErr result (λ e. Refuses (refused (state_of self.now) do_status) e × Stays self.now self.now) }
+        ensures refused { IfErr result (λ e. Refuses (refused (state_of self.now) do_status) e
+            × Stays self.now self.now) }
     {
         Ok(Reply::Status {
             minimum: 0,

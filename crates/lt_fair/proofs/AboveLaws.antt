@@ -10,9 +10,9 @@ use Rattle.std.proofs.lemmas.Cmp.{eq_by_cmp_equiv, nat_list_cmp_total}
 use Rattle.std.proofs.lemmas.Map.Entries.{lookup-filter-values, option_filter}
 use Rattle.std.proofs.lemmas.Map.Keys.{IsDistinct-from_sorted}
 use Rattle.std.proofs.lemmas.List.Elements.{filter-append}
-use Rattle.lt_laws.proofs.PointLaws.{AllAbove, Ordered, later_high}
-use Rattle.lt_model.specs.Key.{bytes_cmp}
-use Rattle.lt_model.specs.Fair.{put_key, window_ts}
+use Rattle.lt_lemmas.proofs.PointLaws.{AllAbove, Ordered, later_high}
+use Rattle.lt_terms.specs.Key.{bytes_cmp}
+use Rattle.lt_tables.specs.Fair.{put_key, window_ts}
 use Rattle.lt_fair.specs.Windows.{is_above, keys_above}
 use Rattle.lt_fair.proofs.WindowLaws.{last_found, put_entry}
 

@@ -4,11 +4,11 @@ use Rattle.std.specs.Prelude.{Err, Ok, OnOk, is_none, nat_le, not, option_and_th
 use Rattle.std.specs.Option.{option_map_or, option_or}
 use Rattle.std.specs.declared.result.Result.{Result}
 use Rattle.std.proofs.lemmas.Bool.{and_from, and_parts, or_parts}
-use Rattle.lt_model.specs.Key.{in_range}
-use Rattle.lt_model.specs.Log.{Change, Header, Item, change_key}
-use Rattle.lt_model.specs.Schema.{Catalogue, registered, table_numbered, when}
-use Rattle.lt_model.specs.Fair.{Point, bad_shape, breaks, breaks_at, change_fault_at, fair_after, has_change_shape, is_close, is_closed, item_fault_at, late, out_of_order, out_of_range, point_after, point_of, unknown_table_number, unknown_version_number, window_ts}
-use Rattle.lt_laws.proofs.PointLaws.{first_of-append, point_suffices}
+use Rattle.lt_terms.specs.Key.{in_range}
+use Rattle.lt_terms.specs.Log.{Change, Header, Item, change_key}
+use Rattle.lt_tables.specs.Schema.{Catalogue, registered, table_numbered, when}
+use Rattle.lt_tables.specs.Fair.{Point, bad_shape, breaks, breaks_at, change_fault_at, fair_after, has_change_shape, is_close, is_closed, item_fault_at, late, out_of_order, out_of_range, point_after, point_of, unknown_table_number, unknown_version_number, window_ts}
+use Rattle.lt_lemmas.proofs.PointLaws.{first_of-append, point_suffices}
 use Rattle.lt_fair.specs.Faults.{Answers, HasTaken, shape_fault, time_fault}
 use Rattle.lt_records.specs.View.{view_item}
 use Rattle.lt_records.specs.declared.record.LogRecord.{LogRecord}

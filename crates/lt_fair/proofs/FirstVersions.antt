@@ -4,10 +4,10 @@ use Rattle.std.specs.Prelude.{is_none, nat_lt, not, option_and_then, option_map,
 use Rattle.std.specs.List.{AllByRecursion}
 use Rattle.std.specs.Borrow.{Bor}
 use Rattle.std.specs.Option.{option_copied, option_map_or, option_or}
-use Rattle.lt_model.specs.Log.{Change}
-use Rattle.lt_model.specs.Schema.{Catalogue, IsCatalogue, Registered, SchemaVersion, Table, after_adding, after_retiring, change_at, first_of, live_version, new_table, nothing_yet, registered, retired_version, schema_version, table_numbered, when, whole_version, with_retired, with_version, without_version}
-use Rattle.lt_model.specs.Fair.{Unfair, bad_shape, has_change_shape, unknown_table_number, unknown_version_number}
-use Rattle.lt_laws.proofs.ListFacts.{find_all}
+use Rattle.lt_terms.specs.Log.{Change}
+use Rattle.lt_tables.specs.Schema.{Catalogue, IsCatalogue, Registered, SchemaVersion, Table, after_adding, after_retiring, change_at, first_of, live_version, new_table, nothing_yet, registered, retired_version, schema_version, table_numbered, when, whole_version, with_retired, with_version, without_version}
+use Rattle.lt_tables.specs.Fair.{Unfair, bad_shape, has_change_shape, unknown_table_number, unknown_version_number}
+use Rattle.lt_lemmas.proofs.ListFacts.{find_all}
 use Rattle.lt_fair.specs.Faults.{fits_version, shape_fault, version_fault}
 
 -- ---- each table has a first version

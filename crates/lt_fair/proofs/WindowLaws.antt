@@ -11,8 +11,8 @@ use Rattle.std.proofs.lemmas.Map.Lookups.{exact_bytes}
 use Rattle.std.proofs.lemmas.List.{drop-set-lt, drop_all, take-append-drop, take_more, take_more_set}
 use Rattle.lt_schema.proofs.Shapes.{drop_got, got_past}
 use Rattle.std.proofs.lemmas.Option.{get_or_from_slice_get, slice_get_cases}
-use Rattle.lt_model.specs.Key.{below, bytes_cmp, same_key}
-use Rattle.lt_model.specs.Fair.{put_key, window_ts}
+use Rattle.lt_terms.specs.Key.{below, bytes_cmp, same_key}
+use Rattle.lt_tables.specs.Fair.{put_key, window_ts}
 use Rattle.lt_fair.specs.Windows.{AllBelow, IsPutPlace, stands_at}
 
 abbrev Timed : Type 0

@@ -3,13 +3,13 @@ use Rattle.std.specs.Prelude.{Bool, List, None, Option, Some, [], false, is_none
 use Rattle.std.specs.Option.{option_map_or}
 use Rattle.std.specs.declared.result.Result.{Result}
 use Rattle.std.specs.declared.result.Result.TheVariants.{Err, Ok}
-use Rattle.lt_model.specs.Value.{Value}
-use Rattle.lt_model.specs.Kind.{has_shape}
-use Rattle.lt_model.specs.Key.{is_key_of}
-use Rattle.lt_model.specs.Log.{Change, Header, Item}
-use Rattle.lt_model.specs.Schema.{Catalogue, Column, SchemaVersion, column_numbered, first_of, key_kinds, registered, sets_shape, table_numbered, when}
-use Rattle.lt_model.specs.Fair as fair
-use Rattle.lt_model.specs.Fair.{Point, bad_shape, has_change_shape, is_closed, is_fair, late, out_of_order, point_of, unknown_table_number, unknown_version_number}
+use Rattle.lt_terms.specs.Value.{Value}
+use Rattle.lt_terms.specs.Kind.{has_shape}
+use Rattle.lt_terms.specs.Key.{is_key_of}
+use Rattle.lt_terms.specs.Log.{Change, Header, Item}
+use Rattle.lt_tables.specs.Schema.{Catalogue, Column, SchemaVersion, column_numbered, first_of, key_kinds, registered, sets_shape, table_numbered, when}
+use Rattle.lt_tables.specs.Fair as fair
+use Rattle.lt_tables.specs.Fair.{Point, bad_shape, has_change_shape, is_closed, is_fair, late, out_of_order, point_of, unknown_table_number, unknown_version_number}
 use Rattle.lt_fair.specs.View.{view_unfair}
 use Rattle.lt_fair.specs.declared.refusal.TakeRefusal.{TakeRefusal}
 use Rattle.lt_fair.specs.declared.refusal.TakeRefusal.TheVariants as refusals

@@ -1,7 +1,7 @@
 -- What a check and its refusals stand for in the definitions.
 use Rattle.std.specs.Prelude.{List, ℕ}
-use Rattle.lt_model.specs.Log as log
-use Rattle.lt_model.specs.Fair as fair
+use Rattle.lt_terms.specs.Log as log
+use Rattle.lt_tables.specs.Fair as fair
 use Rattle.lt_records.specs.View.{view_header}
 use Rattle.lt_fair.specs.declared.checker.Checker.{Checker}
 use Rattle.lt_fair.specs.declared.point.Point.{Point}

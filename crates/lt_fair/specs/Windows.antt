@@ -2,7 +2,7 @@
 use Rattle.std.specs.Prelude.{Bool, List, None, Option, Some, false, filter, length, nat_lt, slice_get, take, true, ℕ, ◌≡◌, ◌≤◌}
 use Rattle.std.specs.List.{AllByRecursion}
 use Rattle.std.specs.Option.{option_map_or}
-use Rattle.lt_model.specs.Key.{below, same_key}
+use Rattle.lt_terms.specs.Key.{below, same_key}
 
 -- the keys are below the key
 abbrev pub AllBelow : List ℕ → List (List ℕ × ℕ) → Type 0

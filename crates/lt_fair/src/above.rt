@@ -7,8 +7,8 @@
 
 ghost use Rattle.std.specs.Prelude.{◌≡◌, ◌&&◌, ◌++◌, ◌∷◌, [], filter, nat_lt, true, IfOk, OnErr, OnOk, ℕ};
 ghost use Rattle.std.specs.BTreeMap.{IsOrdered};
-ghost use Rattle.lt_model.specs.Key.{bytes_cmp};
-ghost use Rattle.lt_model.specs.Fair.{put_key, window_ts};
+ghost use Rattle.lt_terms.specs.Key.{bytes_cmp};
+ghost use Rattle.lt_tables.specs.Fair.{put_key, window_ts};
 ghost use Rattle.lt_fair.specs.Windows.{is_above, keys_above};
 
 use crate::point::Window;
@@ -29,7 +29,7 @@ pub struct KeysAbove {
 impl Model for KeysAbove {
     ghost use Rattle.std.specs.Prelude.{List as Listed, ℕ};
     ghost use Rattle.std.specs.BTreeMap.{IsOrdered};
-    ghost use Rattle.lt_model.specs.Key.{bytes_cmp};
+    ghost use Rattle.lt_terms.specs.Key.{bytes_cmp};
     ghost use Rattle.lt_fair.specs.Windows.{keys_above};
 
     ghost Value = { Listed (Listed ℕ × ℕ) };

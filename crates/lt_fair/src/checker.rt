@@ -1,10 +1,10 @@
 //! The check of a stream.
 
 ghost use Rattle.std.specs.Prelude.{◌≡◌, ◌++◌, ◌∷◌, [], false, List, IfOk, nat_lt, OnErr, OnOk};
-ghost use Rattle.lt_model.specs.Log.{Item, change_key};
-ghost use Rattle.lt_model.specs.Schema as schema;
-ghost use Rattle.lt_model.specs.Schema.{when};
-ghost use Rattle.lt_model.specs.Fair.{breaks, breaks_at, backward, change_fault_at, item_fault_at, point_after, point_of, window_ts, with_change};
+ghost use Rattle.lt_terms.specs.Log.{Item, change_key};
+ghost use Rattle.lt_tables.specs.Schema as schema;
+ghost use Rattle.lt_tables.specs.Schema.{when};
+ghost use Rattle.lt_tables.specs.Fair.{breaks, breaks_at, backward, change_fault_at, item_fault_at, point_after, point_of, window_ts, with_change};
 ghost use Rattle.lt_records.specs.View.{view_change, view_header, view_item};
 ghost use Rattle.lt_fair.specs.Faults.{Answers, Finds, HasTaken, shape_fault, time_fault};
 ghost use Rattle.lt_fair.specs.View.{header_of, point_in, view_kept, view_point};
@@ -75,8 +75,10 @@ impl Checker {
 
     /// What `take` would answer.
     pub fn test(&self, cat: &Catalogue, item: &LogRecord) -> Result<(), TakeRefusal>
-        ensures by_point { Answers (breaks_at (header_of self.now) cat.now false (point_in self.now) (view_item item.now)) result }
-        ensures by_list { (items : List Item) → HasTaken (header_of self.now) cat.now (point_in self.now) items → Answers (breaks (header_of self.now) cat.now items (view_item item.now)) result }
+        ensures by_point { Answers (breaks_at (header_of self.now) cat.now false (point_in self.now)
+            (view_item item.now)) result }
+        ensures by_list { (items : List Item) → HasTaken (header_of self.now) cat.now (point_in self.now) items
+            → Answers (breaks (header_of self.now) cat.now items (view_item item.now)) result }
     {
         self.answer(cat, item)
     }
@@ -86,12 +88,16 @@ impl Checker {
         ensures header { header_of self.new ≡ header_of self.old }
 
         // The answer, by what is kept and by the items that were taken.
-        ensures by_point { Answers (breaks_at (header_of self.old) cat.now false (point_in self.old) (view_item item.now)) result }
-        ensures by_list { (items : List Item) → HasTaken (header_of self.old) cat.now (point_in self.old) items → Answers (breaks (header_of self.old) cat.now items (view_item item.now)) result }
+        ensures by_point { Answers (breaks_at (header_of self.old) cat.now false (point_in self.old)
+            (view_item item.now)) result }
+        ensures by_list { (items : List Item) → HasTaken (header_of self.old) cat.now (point_in self.old) items
+            → Answers (breaks (header_of self.old) cat.now items (view_item item.now)) result }
 
         // What is kept then.
         ensures next { OnOk result (point_in self.new ≡ point_after (point_in self.old) (view_item item.now)) }
-        ensures taken { (items : List Item) → HasTaken (header_of self.old) cat.now (point_in self.old) items → OnOk result (HasTaken (header_of self.new) cat.now (point_in self.new) (items ++ view_item item.now ∷ [])) }
+        ensures taken { (items : List Item) → HasTaken (header_of self.old) cat.now (point_in self.old) items
+            → OnOk result (HasTaken (header_of self.new) cat.now (point_in self.new)
+            (items ++ view_item item.now ∷ [])) }
         ensures refused { OnErr result (point_in self.new ≡ point_in self.old) }
     {
         self.step(cat, item)
@@ -122,7 +128,8 @@ impl Checker {
     /// Takes a record, by what is kept.
     fn step(&mut self, cat: &Catalogue, item: &LogRecord) -> Result<(), TakeRefusal>
         ensures header { header_of self.new ≡ header_of self.old }
-        ensures answer { Answers (item_fault_at (header_of self.old) cat.now (point_in self.old) (view_item item.now)) result }
+        ensures answer { Answers (item_fault_at (header_of self.old) cat.now (point_in self.old)
+            (view_item item.now)) result }
         ensures next { OnOk result (point_in self.new ≡ point_after (point_in self.old) (view_item item.now)) }
         ensures refused { OnErr result (point_in self.new ≡ point_in self.old) }
     {
@@ -140,7 +147,8 @@ impl Checker {
 
     fn take_change(&mut self, cat: &Catalogue, change: &ChangeRecord) -> Result<(), TakeRefusal>
         ensures header { header_of self.new ≡ header_of self.old }
-        ensures answer { Answers (change_fault_at (header_of self.old) cat.now (point_in self.old) (view_change change.now)) result }
+        ensures answer { Answers (change_fault_at (header_of self.old) cat.now (point_in self.old)
+            (view_change change.now)) result }
         ensures next { OnOk result (point_in self.new ≡ with_change (point_in self.old) (view_change change.now)) }
         ensures refused { OnErr result (point_in self.new ≡ point_in self.old) }
     {
@@ -151,7 +159,8 @@ impl Checker {
     }
 
     fn test_change(&self, cat: &Catalogue, change: &ChangeRecord) -> Result<(), TakeRefusal>
-        ensures { Answers (change_fault_at (header_of self.now) cat.now (point_in self.now) (view_change change.now)) result }
+        ensures { Answers (change_fault_at (header_of self.now) cat.now (point_in self.now) (view_change change.now))
+            result }
     {
         self.key_of(cat, change)?;
         Ok(())
@@ -159,7 +168,8 @@ impl Checker {
 
     /// The key of a fair change.
     fn key_of(&self, cat: &Catalogue, change: &ChangeRecord) -> Result<KeyBytes, TakeRefusal>
-        ensures answer { Answers (change_fault_at (header_of self.now) cat.now (point_in self.now) (view_change change.now)) result }
+        ensures answer { Answers (change_fault_at (header_of self.now) cat.now (point_in self.now)
+            (view_change change.now)) result }
         ensures key { IfOk result (λ key. key ≡ change_key (view_change change.now)) }
     {
         let alloc = self.header.range.low.allocator();
@@ -176,7 +186,8 @@ impl Checker {
         key: &KeyBytes,
     ) -> Result<(), Unfair>
         requires { key.now ≡ change_key (view_change change.now) }
-        ensures { Finds (change_fault_at (header_of self.now) cat.now (point_in self.now) (view_change change.now)) result }
+        ensures { Finds (change_fault_at (header_of self.now) cat.now (point_in self.now) (view_change change.now))
+            result }
     {
         if !self.header.range.contains(key.as_slice()) {
             return Err(Unfair::Range);

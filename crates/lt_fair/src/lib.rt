@@ -19,6 +19,3 @@ mod window;
 pub use checker::Checker;
 pub use point::{Point, Window};
 pub use refusal::{TakeRefusal, Unfair};
-
-#[cfg(test)]
-mod tests;

@@ -1,7 +1,7 @@
 //! The version of a change's table. A lawful catalogue has at most 64 tables, and a version is found in constant time.
 
 ghost use Rattle.std.specs.Prelude.{◌≡◌, None, option_map, IfErr, IfOk, Some};
-ghost use Rattle.lt_model.specs.Schema.{schema_version};
+ghost use Rattle.lt_tables.specs.Schema.{schema_version};
 ghost use Rattle.lt_schema.specs.View.{view_version};
 ghost use Rattle.lt_fair.specs.Faults.{version_fault};
 ghost use Rattle.lt_fair.specs.View.{view_unfair};

@@ -5,8 +5,8 @@
 //! at each call. One whose keys do not rise, which no check makes, stays a list.
 
 ghost use Rattle.std.specs.Prelude.{◌≡◌, ◌<◌, [], filter, length, nat_lt, IfOk, IfSome, IsTrue, OnErr, OnOk};
-ghost use Rattle.lt_model.specs.Key.{below};
-ghost use Rattle.lt_model.specs.Fair.{put_key, window_ts};
+ghost use Rattle.lt_terms.specs.Key.{below};
+ghost use Rattle.lt_tables.specs.Fair.{put_key, window_ts};
 ghost use Rattle.lt_fair.specs.View.{view_kept};
 ghost use Rattle.lt_fair.specs.Windows.{AllBelow, IsPutPlace, stands_at};
 

@@ -2,14 +2,17 @@
 use Rattle.std.proofs.Common.{List, [], ap, arith, inl, inr, length, refl, ℕ, ◌++◌, ◌∷◌, ◌≡◌, ◌+◌, ◌-◌, ◌<◌, ◌≤◌, ◌⊎◌}
 use Rattle.std.specs.Prelude.{IsTrue, None, Option, Some, nat_le}
 use Rattle.std.proofs.lemmas.Bool.{and_from, and_parts}
-use Rattle.lt_model.specs.declared.Extent.{Extent}
-use Rattle.lt_model.specs.Disk.{StaysOutside, bytes_in}
-use Rattle.lt_model.specs.Fair.{Feed}
-use Rattle.lt_model.specs.Log.{Header, Item}
-use Rattle.lt_model.specs.Machine.{Job, State}
-use Rattle.lt_model.specs.Outside.{HasRoot, HoldsEither, IsHonest, MadeStand}
-use Rattle.lt_model.specs.Sound.{IsGood, IsSound, LeavesPart, Session}
-use Rattle.lt_model.specs.Store.{HoldsAt, IsManifest, Manifest, Placing, are_apart, are_within, end_of, extents_of, manifest_bytes, root_extent, slot_place}
+use Rattle.lt_terms.specs.declared.Extent.{Extent}
+use Rattle.lt_world.specs.Disk.{StaysOutside, bytes_in}
+use Rattle.lt_world.specs.Feed.{Feed}
+use Rattle.lt_terms.specs.Log.{Header, Item}
+use Rattle.lt_machine.specs.Machine.{Job, State}
+use Rattle.lt_world.specs.Slots.{HasRoot}
+use Rattle.lt_machine.specs.Outside.{HoldsEither, IsHonest, MadeStand}
+use Rattle.lt_machine.specs.Sound.{IsGood, IsSound, LeavesPart, Session}
+use Rattle.lt_world.specs.Extents.{are_apart, end_of}
+use Rattle.lt_world.specs.Slots.{slot_place}
+use Rattle.lt_storage.specs.Store.{HoldsAt, IsManifest, Manifest, Placing, are_within, extents_of, manifest_bytes, root_extent}
 use Rattle.lt_codecs.proofs.ListFacts.{all_append, all_front, all_rest}
 use Rattle.lt_root.specs.Steps.{HasCommitted}
 use Rattle.lt_disk.proofs.Written.{bytes_length}

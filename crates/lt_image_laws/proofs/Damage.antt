@@ -4,19 +4,24 @@ use Rattle.std.specs.Prelude.{Contains, IsTrue, codes, map, nat_le, nat_lt, not,
 use Rattle.std.specs.List.{AllByRecursion, list_all}
 use Rattle.std.proofs.lemmas.Bool.{and_from, and_parts, both_ways, cases_eq, false_from_ne_true, or_cases}
 use Rattle.std.proofs.lemmas.List.{length-append}
-use Rattle.lt_model.specs.declared.Extent.{Extent}
-use Rattle.lt_model.specs.declared.Root.{Root}
-use Rattle.lt_model.specs.Disk.{bytes_at, bytes_in}
-use Rattle.lt_model.specs.Fair.{Feed}
-use Rattle.lt_model.specs.Key.{below, max_key}
-use Rattle.lt_model.specs.Layout.{Leaf}
-use Rattle.lt_model.specs.Version.{RowVersion}
-use Rattle.lt_model.specs.Outside.{Causes}
-use Rattle.lt_model.specs.Program.{KeepsLows, OpenCaused, ReadsAll}
-use Rattle.lt_model.specs.Run.{AreReadable, IsBadBundle, IsDamaged, IsDamagedAgain, IsDamagedSlot, IsMismatch, IsMisplaced, StartFault, is_known_index, no_store, start_damaged, start_disk, start_feed, start_mismatch, store_there}
-use Rattle.lt_model.specs.Schema.{Catalogue, Table, table_numbered}
-use Rattle.lt_model.specs.Sound.{IsSound}
-use Rattle.lt_model.specs.Store.{BundleEntry, CountsAsRoot, Delta, Durable, HasBundle, HasBundles, HasDeltas, HasNoStore, HasPlaced, HasTables, HoldsAt, HurtBundle, HurtIndex, IsHurt, IsIndex, IsManifest, IsSlot, IsStore, IsTableIndex, Manifest, Placing, TableDelta, TableIndex, apart, are_apart, bundle_extents, counted32, end_of, entries_rise, entry_extent, extents_of, index_bytes, is_entry, is_open, is_root, is_stream_entry, root_extent, slot_place, table_index_bytes}
+use Rattle.lt_terms.specs.declared.Extent.{Extent}
+use Rattle.lt_terms.specs.declared.Root.{Root}
+use Rattle.lt_world.specs.Disk.{bytes_at, bytes_in}
+use Rattle.lt_world.specs.Feed.{Feed}
+use Rattle.lt_terms.specs.Key.{below, max_key}
+use Rattle.lt_terms.specs.Layout.{Leaf}
+use Rattle.lt_tables.specs.Version.{RowVersion}
+use Rattle.lt_machine.specs.Outside.{Causes}
+use Rattle.lt_machine.specs.Program.{KeepsLows, OpenCaused, ReadsAll}
+use Rattle.lt_world.specs.Slots.{IsDamagedSlot}
+use Rattle.lt_world.specs.Extents.{IsMisplaced}
+use Rattle.lt_tables.specs.Pump.{IsMismatch}
+use Rattle.lt_machine.specs.Run.{AreReadable, IsBadBundle, IsDamaged, IsDamagedAgain, StartFault, is_known_index, no_store, start_damaged, start_disk, start_feed, start_mismatch, store_there}
+use Rattle.lt_tables.specs.Schema.{Catalogue, Table, table_numbered}
+use Rattle.lt_machine.specs.Sound.{IsSound}
+use Rattle.lt_world.specs.Slots.{CountsAsRoot, HasNoStore, IsSlot, is_open, is_root, slot_place}
+use Rattle.lt_world.specs.Extents.{apart, are_apart, end_of}
+use Rattle.lt_storage.specs.Store.{BundleEntry, Delta, Durable, HasBundle, HasBundles, HasDeltas, HasPlaced, HasTables, HoldsAt, HurtBundle, HurtIndex, IsHurt, IsIndex, IsManifest, IsStore, IsTableIndex, Manifest, Placing, TableDelta, TableIndex, bundle_extents, counted32, entries_rise, entry_extent, extents_of, index_bytes, is_entry, is_stream_entry, root_extent, table_index_bytes}
 use Rattle.lt_codecs.proofs.ListFacts.{all_append}
 use Rattle.lt_disk.proofs.Written.{bytes_length}
 use Rattle.lt_laws.proofs.DurableFacts.{got_is_held}

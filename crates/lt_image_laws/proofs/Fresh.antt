@@ -4,13 +4,16 @@ use Rattle.std.specs.Prelude.{IsTrue, flat_map, map, nat_le, nat_lt, ◌&&◌, �
 use Rattle.std.specs.List.{list_all}
 use Rattle.std.proofs.lemmas.Bool.{and_from, and_parts}
 use Rattle.std.proofs.lemmas.List.{length-append, length-map}
-use Rattle.lt_model.specs.Disk.{StaysOutside}
-use Rattle.lt_model.specs.Fair.{Feed}
-use Rattle.lt_model.specs.Key.{max_key}
-use Rattle.lt_model.specs.Log.{Header, u16}
-use Rattle.lt_model.specs.Machine.{fresh, opened}
-use Rattle.lt_model.specs.Outside.{BelongsTo, HasRoot, Memory}
-use Rattle.lt_model.specs.Store.{HasPlaced, HoldsAt, IsLawfulPart, Stream, are_apart, are_within, bare_manifest, counted32, delta_entry_bytes, extents_of, is_stream_entry, manifest_bytes, part_entry_bytes, stream_entry_bytes}
+use Rattle.lt_world.specs.Disk.{StaysOutside}
+use Rattle.lt_world.specs.Feed.{Feed}
+use Rattle.lt_terms.specs.Key.{max_key}
+use Rattle.lt_terms.specs.Log.{Header, u16}
+use Rattle.lt_machine.specs.Machine.{fresh, opened}
+use Rattle.lt_world.specs.Slots.{HasRoot}
+use Rattle.lt_machine.specs.Outside.{BelongsTo}
+use Rattle.lt_machine.specs.Sound.{Memory}
+use Rattle.lt_world.specs.Extents.{are_apart}
+use Rattle.lt_storage.specs.Store.{HasPlaced, HoldsAt, IsLawfulPart, Stream, are_within, bare_manifest, counted32, delta_entry_bytes, extents_of, is_stream_entry, manifest_bytes, part_entry_bytes, stream_entry_bytes}
 use Rattle.lt_root.specs.Roots.{first_root}
 use Rattle.lt_image_laws.specs.Bytes.{extent_at}
 use Rattle.lt_image_laws.specs.Fresh.{FreshHolds, HasFresh, fresh_length, fresh_placing}

@@ -2,15 +2,16 @@
 use Rattle.std.proofs.Common.{List, [], inl, inr, le-leb, length, refl, subst, sym, ℕ, ◌++◌, ◌∷◌, ◌≡◌, ◌≤◌}
 use Rattle.std.specs.Prelude.{IsTrue, None, Option, Some, nat_le, slice_get}
 use Rattle.std.proofs.lemmas.Bool.{and_from, and_parts}
-use Rattle.lt_model.specs.declared.Extent.{Extent}
-use Rattle.lt_model.specs.Disk.{bytes_in}
-use Rattle.lt_model.specs.Fair.{Feed, Grows}
-use Rattle.lt_model.specs.Layout.{Leaf}
-use Rattle.lt_model.specs.Machine.{Job, State}
-use Rattle.lt_model.specs.Outside.{HoldsEither, IsHonest, MadeStand, bytes_of_bundle, job_bundles}
-use Rattle.lt_model.specs.Store.{Durable, HasPlaced, Holds, Placing, are_within, end_of, extents_of}
-use Rattle.lt_model.specs.Version.{RowVersion}
-use Rattle.lt_laws.proofs.FrontLaws.{grows_itself}
+use Rattle.lt_terms.specs.declared.Extent.{Extent}
+use Rattle.lt_world.specs.Disk.{bytes_in}
+use Rattle.lt_world.specs.Feed.{Feed, Grows}
+use Rattle.lt_terms.specs.Layout.{Leaf}
+use Rattle.lt_machine.specs.Machine.{Job, State}
+use Rattle.lt_machine.specs.Outside.{HoldsEither, IsHonest, MadeStand, bytes_of_bundle, job_bundles}
+use Rattle.lt_world.specs.Extents.{end_of}
+use Rattle.lt_storage.specs.Store.{Durable, HasPlaced, Holds, Placing, are_within, extents_of}
+use Rattle.lt_tables.specs.Version.{RowVersion}
+use Rattle.lt_lemmas.proofs.FrontLaws.{grows_itself}
 use Rattle.lt_laws.proofs.FrontStands.{sound_grows}
 use Rattle.lt_image_laws.specs.Commit.{broken_by}
 use Rattle.lt_image_laws.specs.Moves.{MoveLaws, SamePart}

@@ -6,22 +6,23 @@ use Rattle.std.proofs.lemmas.Bool.{and_from, and_parts, false≢true}
 use Rattle.std.proofs.lemmas.Cmp.{nat_list_cmp_total}
 use Rattle.std.specs.Ordering.{is_lt, ordering_reverse}
 use Rattle.std.proofs.lemmas.List.{length-append, length-map}
-use Rattle.lt_model.specs.declared.Extent.{Extent}
-use Rattle.lt_model.specs.Bundle.{bundle_bytes, leaves_bytes, with_offsets}
-use Rattle.lt_model.specs.Disk.{bytes_in}
-use Rattle.lt_model.specs.Key.{below, max_key}
-use Rattle.lt_model.specs.Layout.{Leaf, are_lawful}
-use Rattle.lt_model.specs.Log.{op_byte, u64}
-use Rattle.lt_model.specs.Schema.{Catalogue, IsCatalogue}
-use Rattle.lt_model.specs.Value.{is_timestamp, rises_above, rises_strictly}
-use Rattle.lt_model.specs.Version.{RowVersion, is_ordered, is_version, least_ts, stands_before}
-use Rattle.lt_model.specs.Store.{AreLawfulTables, BundleEntry, Delta, IsIndex, IsLawfulTable, IsLayout, IsTableIndex, TableDelta, TableIndex, bare_entry, entries_rise, entry_extent, first_key, index_bytes, is_entry, last_key}
+use Rattle.lt_terms.specs.declared.Extent.{Extent}
+use Rattle.lt_storage.specs.Bundle.{bundle_bytes, leaves_bytes, with_offsets}
+use Rattle.lt_world.specs.Disk.{bytes_in}
+use Rattle.lt_terms.specs.Key.{below, max_key}
+use Rattle.lt_terms.specs.Layout.{Leaf, are_lawful}
+use Rattle.lt_terms.specs.Log.{op_byte, u64}
+use Rattle.lt_tables.specs.Schema.{Catalogue, IsCatalogue}
+use Rattle.lt_terms.specs.Value.{is_timestamp, rises_above, rises_strictly}
+use Rattle.lt_tables.specs.Version.{RowVersion, is_ordered, is_version, least_ts, stands_before}
+use Rattle.lt_storage.specs.Store.{AreLawfulTables, BundleEntry, Delta, IsIndex, IsLawfulTable, IsLayout, IsTableIndex, TableDelta, TableIndex, bare_entry, entries_rise, entry_extent, first_key, index_bytes, is_entry, last_key}
 use Rattle.lt_codecs.proofs.ListFacts.{all_front, all_map, all_rest}
 use Rattle.lt_disk.proofs.Written.{bytes_length}
-use Rattle.lt_laws.proofs.ClipLaws.{before-below, key-less}
+use Rattle.lt_lemmas.proofs.ClipLaws.{key-less}
+use Rattle.lt_laws.proofs.ClipLaws.{before-below}
 use Rattle.lt_laws.proofs.NewDelta.{tests_hold}
-use Rattle.lt_laws.proofs.TableLaws.{fine_table}
-use Rattle.lt_laws.proofs.VersionGrowth.{its_number}
+use Rattle.lt_lemmas.proofs.TableLaws.{fine_table}
+use Rattle.lt_lemmas.proofs.VersionGrowth.{its_number}
 use Rattle.lt_image_laws.specs.Shelf.{BundleStands, BundlesStand, DeltaStands, FitsIndex, Shelved, TablesStand}
 use Rattle.lt_image_laws.proofs.Bytes.{table_extents}
 

@@ -2,12 +2,13 @@
 use Rattle.std.proofs.Common.{List, [], arith, length, refl, subst, sym, ℕ, ◌++◌, ◌∷◌, ◌≡◌}
 use Rattle.std.specs.Prelude.{Bool, Contains, IsTrue, filter, nat_le}
 use Rattle.std.specs.List.{AllByRecursion}
-use Rattle.lt_model.specs.declared.Extent.{Extent}
-use Rattle.lt_model.specs.declared.Root.{Root}
-use Rattle.lt_model.specs.Disk.{bytes_in}
-use Rattle.lt_model.specs.Fair.{Feed}
-use Rattle.lt_model.specs.Machine.{State}
-use Rattle.lt_model.specs.Store.{AreLawfulTables, Delta, Durable, Placing, are_apart, are_within, bundle_extents, end_of, extents_of, manifest_bytes, root_extent}
+use Rattle.lt_terms.specs.declared.Extent.{Extent}
+use Rattle.lt_terms.specs.declared.Root.{Root}
+use Rattle.lt_world.specs.Disk.{bytes_in}
+use Rattle.lt_world.specs.Feed.{Feed}
+use Rattle.lt_machine.specs.Machine.{State}
+use Rattle.lt_world.specs.Extents.{are_apart, end_of}
+use Rattle.lt_storage.specs.Store.{AreLawfulTables, Delta, Durable, Placing, are_within, bundle_extents, extents_of, manifest_bytes, root_extent}
 use Rattle.lt_codecs.proofs.ListFacts.{all_append, all_front, all_rest}
 use Rattle.lt_laws.proofs.ListFacts.{all_at, contains_rest}
 use Rattle.lt_laws.proofs.NewDelta.{tests_hold}

@@ -7,19 +7,24 @@ use Rattle.lt_image_laws.proofs.Bytes.{bytes_stay}
 use Rattle.lt_image_laws.proofs.Fresh.{fresh_holds}
 use Rattle.lt_image_laws.proofs.Moves.{move_laws}
 use Rattle.lt_image_laws.proofs.Opening.{opened_is_held}
-use Rattle.lt_model.specs.Version.{RowVersion}
-use Rattle.lt_model.specs.Sound.{IsGood, IsSound, Session}
-use Rattle.lt_model.specs.Run.{Attaches}
-use Rattle.lt_model.specs.Program.{IsOpened}
-use Rattle.lt_model.specs.Log.{Header, Item}
-use Rattle.lt_model.specs.Layout.{Leaf}
-use Rattle.lt_model.specs.declared.Extent.{Extent}
-use Rattle.lt_model.specs.declared.Root.{Root}
-use Rattle.lt_model.specs.Disk.{LeftOnly, StaysOutside, bytes_at, bytes_in, with_bytes}
-use Rattle.lt_model.specs.Fair.{Feed, AreShort}
-use Rattle.lt_model.specs.Machine.{State, Job, fresh, opened}
-use Rattle.lt_model.specs.Outside.{BelongsTo, HasRoot, IsHonest, LeavesNow, Memory, bytes_of_bundle, job_bundles}
-use Rattle.lt_model.specs.Store.{Placing, are_apart, is_gap, slot_place, Durable, HoldsAt}
+use Rattle.lt_tables.specs.Version.{RowVersion}
+use Rattle.lt_machine.specs.Sound.{IsGood, IsSound, Session}
+use Rattle.lt_tables.specs.Pump.{Attaches}
+use Rattle.lt_machine.specs.Program.{IsOpened}
+use Rattle.lt_terms.specs.Log.{Header, Item}
+use Rattle.lt_terms.specs.Layout.{Leaf}
+use Rattle.lt_terms.specs.declared.Extent.{Extent}
+use Rattle.lt_terms.specs.declared.Root.{Root}
+use Rattle.lt_world.specs.Disk.{LeftOnly, StaysOutside, bytes_at, bytes_in, with_bytes}
+use Rattle.lt_world.specs.Feed.{Feed, AreShort}
+use Rattle.lt_machine.specs.Machine.{State, Job, fresh, opened}
+use Rattle.lt_world.specs.Slots.{HasRoot}
+use Rattle.lt_world.specs.Disk.{LeavesNow}
+use Rattle.lt_machine.specs.Outside.{BelongsTo, IsHonest, bytes_of_bundle, job_bundles}
+use Rattle.lt_machine.specs.Sound.{Memory}
+use Rattle.lt_world.specs.Extents.{are_apart, is_gap}
+use Rattle.lt_world.specs.Slots.{slot_place}
+use Rattle.lt_storage.specs.Store.{Placing, Durable, HoldsAt}
 use Rattle.lt_disk.specs.Within.{IsStable, IsWithin, ReadsWithin}
 use Rattle.lt_disk.proofs.Moments.{Device, holds_now, told_at, told_outside, weaker}
 use Rattle.lt_root.specs.Roots.{next_root, first_root}

@@ -2,15 +2,17 @@
 use Rattle.std.proofs.Common.{List, [], ap, arith, inl, length, leb-true, refl, subst, sym, true, ℕ, ◌++◌, ◌∷◌, ◌≡◌, ◌≤◌, append-nil}
 use Rattle.std.specs.Prelude.{IsTrue, Some, is_some, map, nat_le, nat_lt, ◌^◌}
 use Rattle.std.proofs.lemmas.Bool.{and_from, and_parts}
-use Rattle.lt_model.specs.declared.Extent.{Extent}
-use Rattle.lt_model.specs.Fair.{AreShort, Feed}
-use Rattle.lt_model.specs.Log.{Header, Item}
-use Rattle.lt_model.specs.Machine.{opened}
-use Rattle.lt_model.specs.Program.{IsOpened, ReadsAll}
-use Rattle.lt_model.specs.Run.{Attaches, is_known_index}
-use Rattle.lt_model.specs.Schema.{Catalogue}
-use Rattle.lt_model.specs.Sound.{IsGood, IsSound}
-use Rattle.lt_model.specs.Store.{Delta, Durable, HasDeltas, HasTables, HoldsAt, Placing, TableDelta, TableIndex, are_within, end_of, extents_of, root_extent}
+use Rattle.lt_terms.specs.declared.Extent.{Extent}
+use Rattle.lt_world.specs.Feed.{AreShort, Feed}
+use Rattle.lt_terms.specs.Log.{Header, Item}
+use Rattle.lt_machine.specs.Machine.{opened}
+use Rattle.lt_machine.specs.Program.{IsOpened, ReadsAll}
+use Rattle.lt_tables.specs.Pump.{Attaches}
+use Rattle.lt_machine.specs.Run.{is_known_index}
+use Rattle.lt_tables.specs.Schema.{Catalogue}
+use Rattle.lt_machine.specs.Sound.{IsGood, IsSound}
+use Rattle.lt_world.specs.Extents.{end_of}
+use Rattle.lt_storage.specs.Store.{Delta, Durable, HasDeltas, HasTables, HoldsAt, Placing, TableDelta, TableIndex, are_within, extents_of, root_extent}
 use Rattle.lt_laws.proofs.LawfulImages.{holds_lawful}
 use Rattle.lt_laws.proofs.SoundLaws.{opening_is_good}
 use Rattle.lt_image_laws.specs.Opening.{OpenedIsHeld, OpensOn, SoundlyHolds}

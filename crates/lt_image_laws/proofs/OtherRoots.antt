@@ -4,14 +4,16 @@ use Rattle.std.specs.Prelude.{IsTrue, nat_le}
 use Rattle.std.proofs.lemmas.Bool.{and_from, or_right, or_left}
 use Rattle.lt_disk.proofs.Written.{written_length}
 use Rattle.lt_root.proofs.Tears.{first_made}
-use Rattle.lt_model.specs.declared.Root.{Root}
-use Rattle.lt_model.specs.Disk.{StaysOutside, bytes_in, with_bytes, zeros}
-use Rattle.lt_model.specs.Fair.{Feed}
-use Rattle.lt_model.specs.Log.{Header}
-use Rattle.lt_model.specs.Machine.{fresh, opened}
-use Rattle.lt_model.specs.Outside.{BelongsTo, IsHonest, Memory}
-use Rattle.lt_model.specs.Sound.{IsSound}
-use Rattle.lt_model.specs.Store.{IsLawfulPart, IsManifest, Manifest, Placing, are_apart, bare_manifest, extents_of, root_extent, apart, manifest_bytes}
+use Rattle.lt_terms.specs.declared.Root.{Root}
+use Rattle.lt_world.specs.Disk.{StaysOutside, bytes_in, with_bytes, zeros}
+use Rattle.lt_world.specs.Feed.{Feed}
+use Rattle.lt_terms.specs.Log.{Header}
+use Rattle.lt_machine.specs.Machine.{fresh, opened}
+use Rattle.lt_machine.specs.Outside.{BelongsTo, IsHonest}
+use Rattle.lt_machine.specs.Sound.{Memory}
+use Rattle.lt_machine.specs.Sound.{IsSound}
+use Rattle.lt_world.specs.Extents.{are_apart, apart}
+use Rattle.lt_storage.specs.Store.{IsLawfulPart, IsManifest, Manifest, Placing, bare_manifest, extents_of, root_extent, manifest_bytes}
 use Rattle.lt_laws.proofs.OneImage.{one_root}
 use Rattle.lt_root.proofs.SlotLaws.{counts_same, lawful_root}
 use Rattle.lt_root.specs.Roots.{first_root, body_of}

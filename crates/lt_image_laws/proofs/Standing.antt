@@ -4,15 +4,19 @@ use Rattle.std.specs.Prelude.{Contains, IfSome, IsSome, IsTrue, None, Option, So
 use Rattle.std.specs.Option.{option_map_or}
 use Rattle.std.specs.List.{AllByRecursion, list_all}
 use Rattle.std.proofs.lemmas.Bool.{and_from, and_parts, false≢true, le-leb, or_left}
-use Rattle.lt_model.specs.declared.Extent.{Extent}
-use Rattle.lt_model.specs.Disk.{StaysOutside}
-use Rattle.lt_model.specs.Fair.{Feed}
-use Rattle.lt_model.specs.Machine.{State, is_broken}
-use Rattle.lt_model.specs.Outside.{HasRoot, HoldsEither, StandsOn}
-use Rattle.lt_model.specs.Sound.{IsSound, Session}
-use Rattle.lt_model.specs.Store.{CountsAsRoot, Durable, HasPlaced, HoldsAt, Placing, apart, are_apart, are_within, end_of, extents_of, is_gap, slot_place}
+use Rattle.lt_terms.specs.declared.Extent.{Extent}
+use Rattle.lt_world.specs.Disk.{StaysOutside}
+use Rattle.lt_world.specs.Feed.{Feed}
+use Rattle.lt_machine.specs.Machine.{State, is_broken}
+use Rattle.lt_world.specs.Slots.{HasRoot}
+use Rattle.lt_machine.specs.Outside.{HoldsEither, StandsOn}
+use Rattle.lt_machine.specs.Sound.{IsSound, Session}
+use Rattle.lt_world.specs.Slots.{CountsAsRoot, slot_place}
+use Rattle.lt_world.specs.Extents.{apart, are_apart, end_of, is_gap}
+use Rattle.lt_storage.specs.Store.{Durable, HasPlaced, HoldsAt, Placing, are_within, extents_of}
 use Rattle.lt_codecs.proofs.ListFacts.{all_append, all_front, all_rest}
-use Rattle.lt_laws.proofs.ListFacts.{all_at, all_from}
+use Rattle.lt_lemmas.proofs.ListFacts.{all_from}
+use Rattle.lt_laws.proofs.ListFacts.{all_at}
 use Rattle.lt_laws.proofs.NewDelta.{tests_hold}
 use Rattle.lt_laws.proofs.OneImage.{holds_one}
 use Rattle.lt_laws.proofs.ReadLaws.{all_tests}

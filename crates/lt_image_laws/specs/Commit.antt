@@ -1,13 +1,16 @@
 -- A commit: what each image is before the root is written, at each moment of that, and after it.
 use Rattle.std.specs.Prelude.{IsTrue, List, Some, ℕ, ◌++◌, ◌-◌, ◌⊎◌, ◌<◌, ◌≤◌, [], ◌≡◌}
-use Rattle.lt_model.specs.declared.Extent.{Extent}
-use Rattle.lt_model.specs.Disk.{StaysOutside}
-use Rattle.lt_model.specs.Fair.{Feed}
-use Rattle.lt_model.specs.Log.{Header, Item}
-use Rattle.lt_model.specs.Machine.{State}
-use Rattle.lt_model.specs.Outside.{HasRoot, IsHonest, LeavesSession, MadeStand}
-use Rattle.lt_model.specs.Sound.{IsGood, IsSound, Session}
-use Rattle.lt_model.specs.Store.{HasPlaced, HoldsAt, Placing, are_apart, are_within, extents_of, slot_place}
+use Rattle.lt_terms.specs.declared.Extent.{Extent}
+use Rattle.lt_world.specs.Disk.{StaysOutside}
+use Rattle.lt_world.specs.Feed.{Feed}
+use Rattle.lt_terms.specs.Log.{Header, Item}
+use Rattle.lt_machine.specs.Machine.{State}
+use Rattle.lt_world.specs.Slots.{HasRoot}
+use Rattle.lt_machine.specs.Outside.{IsHonest, LeavesSession, MadeStand}
+use Rattle.lt_machine.specs.Sound.{IsGood, IsSound, Session}
+use Rattle.lt_world.specs.Extents.{are_apart}
+use Rattle.lt_world.specs.Slots.{slot_place}
+use Rattle.lt_storage.specs.Store.{HasPlaced, HoldsAt, Placing, are_within, extents_of}
 use Rattle.lt_root.specs.Steps.{HasCommitted}
 use Rattle.lt_image_laws.specs.Standing.{IsRooted, placed_at}
 

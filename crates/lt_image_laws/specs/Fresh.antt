@@ -1,12 +1,14 @@
 -- A fresh store: what is placed in it, and what an image is once its root was made.
 use Rattle.std.specs.Prelude.{IsTrue, List, [], length, ℕ, ◌+◌, ◌≡◌, ◌≤◌}
-use Rattle.lt_model.specs.Disk.{StaysOutside, bytes_in, with_bytes}
-use Rattle.lt_model.specs.Fair.{Feed}
-use Rattle.lt_model.specs.Log.{Header}
-use Rattle.lt_model.specs.Machine.{fresh, opened}
-use Rattle.lt_model.specs.Outside.{BelongsTo, HasRoot, Memory}
-use Rattle.lt_model.specs.Program.{IsOpened}
-use Rattle.lt_model.specs.Store.{HoldsAt, IsLawfulPart, Placing, are_within, bare_manifest, extents_of, manifest_bytes, manifest_length}
+use Rattle.lt_world.specs.Disk.{StaysOutside, bytes_in, with_bytes}
+use Rattle.lt_world.specs.Feed.{Feed}
+use Rattle.lt_terms.specs.Log.{Header}
+use Rattle.lt_machine.specs.Machine.{fresh, opened}
+use Rattle.lt_world.specs.Slots.{HasRoot}
+use Rattle.lt_machine.specs.Outside.{BelongsTo}
+use Rattle.lt_machine.specs.Sound.{Memory}
+use Rattle.lt_machine.specs.Program.{IsOpened}
+use Rattle.lt_storage.specs.Store.{HoldsAt, IsLawfulPart, Placing, are_within, bare_manifest, extents_of, manifest_bytes, manifest_length}
 use Rattle.lt_root.specs.Roots.{first_root}
 use Rattle.lt_image_laws.specs.Bytes.{extent_at}
 use Rattle.lt_image_laws.specs.Standing.{IsRooted}

@@ -1,12 +1,14 @@
 -- Why a session needs its root beside what is honest: an honest image may have its root elsewhere.
 use Rattle.std.specs.Prelude.{List, [], length, ℕ, ◌+◌, ◌≡◌, ◌≤◌}
-use Rattle.lt_model.specs.Disk.{StaysOutside, bytes_in}
-use Rattle.lt_model.specs.Fair.{Feed}
-use Rattle.lt_model.specs.Log.{Header}
-use Rattle.lt_model.specs.Machine.{fresh, opened}
-use Rattle.lt_model.specs.Outside.{BelongsTo, HasRoot, IsHonest, Memory}
-use Rattle.lt_model.specs.Sound.{IsSound}
-use Rattle.lt_model.specs.Store.{IsLawfulPart, IsManifest, Manifest, bare_manifest, manifest_bytes}
+use Rattle.lt_world.specs.Disk.{StaysOutside, bytes_in}
+use Rattle.lt_world.specs.Feed.{Feed}
+use Rattle.lt_terms.specs.Log.{Header}
+use Rattle.lt_machine.specs.Machine.{fresh, opened}
+use Rattle.lt_world.specs.Slots.{HasRoot}
+use Rattle.lt_machine.specs.Outside.{BelongsTo, IsHonest}
+use Rattle.lt_machine.specs.Sound.{Memory}
+use Rattle.lt_machine.specs.Sound.{IsSound}
+use Rattle.lt_storage.specs.Store.{IsLawfulPart, IsManifest, Manifest, bare_manifest, manifest_bytes}
 use Rattle.lt_root.specs.Roots.{first_root}
 use Rattle.lt_image_laws.specs.Bytes.{IsBeside, extent_at}
 use Rattle.lt_image_laws.specs.Fresh.{HasFresh, fresh_length, fresh_placing}

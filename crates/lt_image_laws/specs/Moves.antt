@@ -1,13 +1,14 @@
 -- What a session stands on while its durable part stays: a longer feed, records taken, a job's steps, and a fault.
 use Rattle.std.specs.Prelude.{IsTrue, List, Some, [], length, slice_get, ℕ, ◌++◌, ◌∷◌, ◌≡◌, ◌≤◌}
-use Rattle.lt_model.specs.declared.Extent.{Extent}
-use Rattle.lt_model.specs.Disk.{bytes_in}
-use Rattle.lt_model.specs.Fair.{Feed, Grows}
-use Rattle.lt_model.specs.Layout.{Leaf}
-use Rattle.lt_model.specs.Machine.{Job, State}
-use Rattle.lt_model.specs.Outside.{IsHonest, MadeStand, bytes_of_bundle, job_bundles}
-use Rattle.lt_model.specs.Store.{Placing, are_within, end_of}
-use Rattle.lt_model.specs.Version.{RowVersion}
+use Rattle.lt_terms.specs.declared.Extent.{Extent}
+use Rattle.lt_world.specs.Disk.{bytes_in}
+use Rattle.lt_world.specs.Feed.{Feed, Grows}
+use Rattle.lt_terms.specs.Layout.{Leaf}
+use Rattle.lt_machine.specs.Machine.{Job, State}
+use Rattle.lt_machine.specs.Outside.{IsHonest, MadeStand, bytes_of_bundle, job_bundles}
+use Rattle.lt_world.specs.Extents.{end_of}
+use Rattle.lt_storage.specs.Store.{Placing, are_within}
+use Rattle.lt_tables.specs.Version.{RowVersion}
 use Rattle.lt_image_laws.specs.Commit.{broken_by}
 use Rattle.lt_image_laws.specs.Standing.{IsRooted, placed_at}
 

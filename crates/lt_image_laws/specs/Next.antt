@@ -1,14 +1,15 @@
 -- What a commit prepares: the next session's part over the deltas that stay, with one new delta or none.
 use Rattle.std.specs.Prelude.{Bool, IsTrue, List, [], filter, ℕ, ◌++◌, ◌∷◌, ◌≡◌}
-use Rattle.lt_model.specs.declared.Extent.{Extent}
-use Rattle.lt_model.specs.declared.Root.{Root}
-use Rattle.lt_model.specs.Disk.{bytes_in}
-use Rattle.lt_model.specs.Fair.{Feed}
-use Rattle.lt_model.specs.Log.{Header, Item}
-use Rattle.lt_model.specs.Machine.{State}
-use Rattle.lt_model.specs.Outside.{MadeStand}
-use Rattle.lt_model.specs.Sound.{IsGood}
-use Rattle.lt_model.specs.Store.{Delta, Placing, are_apart, are_within, extents_of, index_bytes, manifest_bytes, root_extent}
+use Rattle.lt_terms.specs.declared.Extent.{Extent}
+use Rattle.lt_terms.specs.declared.Root.{Root}
+use Rattle.lt_world.specs.Disk.{bytes_in}
+use Rattle.lt_world.specs.Feed.{Feed}
+use Rattle.lt_terms.specs.Log.{Header, Item}
+use Rattle.lt_machine.specs.Machine.{State}
+use Rattle.lt_machine.specs.Outside.{MadeStand}
+use Rattle.lt_machine.specs.Sound.{IsGood}
+use Rattle.lt_world.specs.Extents.{are_apart}
+use Rattle.lt_storage.specs.Store.{Delta, Placing, are_within, extents_of, index_bytes, manifest_bytes, root_extent}
 use Rattle.lt_image_laws.specs.Apart.{new_extents}
 use Rattle.lt_image_laws.specs.Commit.{IsPrepared}
 use Rattle.lt_image_laws.specs.Shelf.{FitsIndex, Shelved, TablesStand, manifest_for, placing_for, shelved_of}

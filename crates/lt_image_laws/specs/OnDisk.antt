@@ -1,12 +1,13 @@
 -- A commit on a disk, between two sessions.
 use Rattle.std.specs.Prelude.{IsTrue, List, ℕ, ◌≡◌}
-use Rattle.lt_model.specs.declared.Extent.{Extent}
-use Rattle.lt_model.specs.declared.Root.{Root}
-use Rattle.lt_model.specs.Disk.{DiskState}
-use Rattle.lt_model.specs.Fair.{Feed}
-use Rattle.lt_model.specs.Machine.{State}
-use Rattle.lt_model.specs.Outside.{LeavesNow}
-use Rattle.lt_model.specs.Store.{Placing, are_apart}
+use Rattle.lt_terms.specs.declared.Extent.{Extent}
+use Rattle.lt_terms.specs.declared.Root.{Root}
+use Rattle.lt_world.specs.Disk.{DiskState}
+use Rattle.lt_world.specs.Feed.{Feed}
+use Rattle.lt_machine.specs.Machine.{State}
+use Rattle.lt_world.specs.Disk.{LeavesNow}
+use Rattle.lt_world.specs.Extents.{are_apart}
+use Rattle.lt_storage.specs.Store.{Placing}
 use Rattle.lt_root.specs.Roots.{next_root}
 use Rattle.lt_image_laws.specs.Commit.{IsPrepared}
 use Rattle.lt_image_laws.specs.Standing.{IsRooted}

@@ -1,15 +1,19 @@
 -- What an opening reads of an image, when it finds damage, and that none shows on a sound image.
 use Rattle.std.specs.Prelude.{Contains, IsTrue, List, Some, [], map, true, ℕ, ◌++◌, ◌∷◌, ◌≡◌}
-use Rattle.lt_model.specs.declared.Extent.{Extent}
-use Rattle.lt_model.specs.declared.Root.{Root}
-use Rattle.lt_model.specs.Disk.{bytes_in}
-use Rattle.lt_model.specs.Fair.{AreShort, Feed}
-use Rattle.lt_model.specs.Log.{Header, Item}
-use Rattle.lt_model.specs.Machine.{opened}
-use Rattle.lt_model.specs.Program.{IsOpened, KeepsLows, ReadsAll}
-use Rattle.lt_model.specs.Run.{Attaches, IsBadBundle, IsDamaged, IsDamagedAgain, IsDamagedSlot, IsMismatch, IsMisplaced, is_known_index}
-use Rattle.lt_model.specs.Sound.{Fronts, IsGood, IsSound, SoundPartOf}
-use Rattle.lt_model.specs.Store.{CountsAsRoot, Durable, HasNoStore, HasPlaced, HoldsAt, IsHurt, IsIndex, IsManifest, Manifest, Placing, TableIndex, are_within, bundle_extents, extents_of, root_extent}
+use Rattle.lt_terms.specs.declared.Extent.{Extent}
+use Rattle.lt_terms.specs.declared.Root.{Root}
+use Rattle.lt_world.specs.Disk.{bytes_in}
+use Rattle.lt_world.specs.Feed.{AreShort, Feed}
+use Rattle.lt_terms.specs.Log.{Header, Item}
+use Rattle.lt_machine.specs.Machine.{opened}
+use Rattle.lt_machine.specs.Program.{IsOpened, KeepsLows, ReadsAll}
+use Rattle.lt_world.specs.Slots.{IsDamagedSlot}
+use Rattle.lt_world.specs.Extents.{IsMisplaced}
+use Rattle.lt_tables.specs.Pump.{Attaches, IsMismatch}
+use Rattle.lt_machine.specs.Run.{IsBadBundle, IsDamaged, IsDamagedAgain, is_known_index}
+use Rattle.lt_machine.specs.Sound.{Fronts, IsGood, IsSound, SoundPartOf}
+use Rattle.lt_world.specs.Slots.{CountsAsRoot, HasNoStore}
+use Rattle.lt_storage.specs.Store.{Durable, HasPlaced, HoldsAt, IsHurt, IsIndex, IsManifest, Manifest, Placing, TableIndex, are_within, bundle_extents, extents_of, root_extent}
 use Rattle.lt_image_laws.specs.Standing.{IsRooted}
 
 -- a sound image's durable part, at a placing

@@ -1,12 +1,15 @@
 -- What a session stands on, and what a write beside it, or in the slot that does not count, leaves of that.
 use Rattle.std.specs.Prelude.{Contains, IfSome, IsSome, IsTrue, List, None, [], false, length, ℕ, ◌++◌, ◌-◌, ◌≡◌, ◌≤◌}
-use Rattle.lt_model.specs.declared.Extent.{Extent}
-use Rattle.lt_model.specs.Disk.{StaysOutside}
-use Rattle.lt_model.specs.Fair.{Feed}
-use Rattle.lt_model.specs.Machine.{State, is_broken}
-use Rattle.lt_model.specs.Outside.{HasRoot, IsHonest, StandsOn}
-use Rattle.lt_model.specs.Sound.{Session}
-use Rattle.lt_model.specs.Store.{HoldsAt, Placing, are_apart, extents_of, is_gap, slot_place}
+use Rattle.lt_terms.specs.declared.Extent.{Extent}
+use Rattle.lt_world.specs.Disk.{StaysOutside}
+use Rattle.lt_world.specs.Feed.{Feed}
+use Rattle.lt_machine.specs.Machine.{State, is_broken}
+use Rattle.lt_world.specs.Slots.{HasRoot}
+use Rattle.lt_machine.specs.Outside.{IsHonest, StandsOn}
+use Rattle.lt_machine.specs.Sound.{Session}
+use Rattle.lt_world.specs.Extents.{are_apart, is_gap}
+use Rattle.lt_world.specs.Slots.{slot_place}
+use Rattle.lt_storage.specs.Store.{HoldsAt, Placing, extents_of}
 use Rattle.lt_image_laws.specs.Bytes.{AllRead, IsBeside}
 
 -- a session that is placed so, with no part of a failed command

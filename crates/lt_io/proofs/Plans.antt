@@ -1,7 +1,7 @@
 -- What a plan of failing calls says of the count of faults.
 use Rattle.std.proofs.Common.{Bool, Err, List, Ok, Result, ap, arith, if◌then◌else◌, is_err, length, length-append, refl, subst, sym, ℕ, ◌≡◌, ◌≤◌}
 use Rattle.std.proofs.lemmas.List.{nil_from_length}
-use Rattle.lt_model.specs.Disk.{HasCause}
+use Rattle.lt_world.specs.Disk.{HasCause}
 use Rattle.lt_io.specs.Plan.{FailsOnly, GoesByPlan, Plan, counted, fails_next, listing}
 
 -- more failing calls are listed

@@ -4,8 +4,8 @@ use Rattle.std.proofs.lemmas.Bool.{cases_lt}
 use Rattle.std.proofs.Math.Seq.{map-set_same}
 use Rattle.std.proofs.lemmas.List.{drop-drop, drop_all, get_or-map, length-map, map-set, nil_from_length}
 use Rattle.std.proofs.lemmas.Option.{unwrap_or-slice_get}
-use Rattle.lt_model.specs.Fair.{Feed, Grows, stream_bytes}
-use Rattle.lt_model.specs.Outside.{FeedCalled, FeedState}
+use Rattle.lt_world.specs.Feed.{Feed, Grows, stream_bytes}
+use Rattle.lt_world.specs.Feed.{FeedCalled, FeedState}
 use Rattle.lt_io.specs.Plan.{GoesByPlan, Plan}
 use Rattle.lt_io.proofs.Plans.{cause_by_plan}
 

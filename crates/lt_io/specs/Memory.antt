@@ -2,8 +2,8 @@
 use Rattle.std.specs.Prelude.{List, Option, Some, Vec, [], drop, length, map, ℕ, ◌∷◌}
 use Rattle.std.specs.declared.alloc.Global.{Global}
 use Rattle.std.proofs.Common.{arith}
-use Rattle.lt_model.specs.Fair.{AreShort, Feed}
-use Rattle.lt_model.specs.Outside.{FeedState}
+use Rattle.lt_world.specs.Feed.{AreShort, Feed}
+use Rattle.lt_world.specs.Feed.{FeedState}
 use Rattle.lt_io.specs.Plan.{Plan}
 use Rattle.lt_io.specs.declared.mem_source.MemSource.{MemSource}
 use Rattle.lt_io.specs.declared.mem_sink.MemSink.{MemSink}

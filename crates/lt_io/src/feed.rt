@@ -1,8 +1,8 @@
 //! Streams of bytes, each of which only grows. They are numbered from 0.
 
 ghost use Rattle.std.specs.Prelude.{◌≡◌, ◌+◌, ◌^◌, ◌<◌, ◌≤◌, length, IfOk, IfSome};
-ghost use Rattle.lt_model.specs.Fair.{AreShort};
-ghost use Rattle.lt_model.specs.Outside.{FeedCalled, FeedReads, FeedState};
+ghost use Rattle.lt_world.specs.Feed.{AreShort};
+ghost use Rattle.lt_world.specs.Feed.{FeedCalled, FeedReads, FeedState};
 
 use crate::faults::FeedFault;
 

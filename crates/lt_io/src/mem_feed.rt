@@ -1,8 +1,8 @@
 //! A feed in memory. A read takes time by what it gives.
 
 ghost use Rattle.std.specs.Prelude.{◌≡◌, ◌+◌, ◌<◌, ◌≤◌, ◌++◌, ◌∷◌, ◌^◌, [], Some, length, map, slice_set, is_err, IfOk, OnOk, OnErr};
-ghost use Rattle.lt_model.specs.Fair.{stream_bytes};
-ghost use Rattle.lt_model.specs.Outside.{FeedCalled, FeedReads};
+ghost use Rattle.lt_world.specs.Feed.{stream_bytes};
+ghost use Rattle.lt_world.specs.Feed.{FeedCalled, FeedReads};
 ghost use Rattle.lt_io.specs.Plan.{no_plan, listing, GoesByPlan, FailsOnly};
 
 use crate::calls::Calls;
@@ -61,7 +61,8 @@ impl MemFeed {
     /// Adds bytes to a stream. An `Err` changes nothing.
     pub fn append(&mut self, stream: u32, bytes: &[u8]) -> Result<(), Memory>
         requires { stream < length (feed_streams self.old) }
-        ensures ok { OnOk result (feed_streams self.new ≡ slice_set (feed_streams self.old) stream (stream_bytes (feed_streams self.old) stream ++ bytes.now)) }
+        ensures ok { OnOk result (feed_streams self.new ≡ slice_set (feed_streams self.old) stream
+            (stream_bytes (feed_streams self.old) stream ++ bytes.now)) }
         ensures err { OnErr result (feed_streams self.new ≡ feed_streams self.old) }
         ensures plan { feed_plan self.new ≡ feed_plan self.old }
     {

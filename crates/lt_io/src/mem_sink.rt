@@ -3,8 +3,8 @@
 ghost use Rattle.std.specs.Prelude.{◌≡◌, ◌<◌, ◌≤◌, [], None, Some, length, is_err, IfOk, OnOk, OnErr};
 ghost use Rattle.std.specs.Io.KnownBytes.{WriteAppends};
 ghost use Rattle.std.specs.Option.{option_or};
-ghost use Rattle.lt_model.specs.Disk.{HasCause};
-ghost use Rattle.lt_model.specs.Outside.{KeepsFirstFault, StaysTold};
+ghost use Rattle.lt_world.specs.Disk.{HasCause};
+ghost use Rattle.lt_world.specs.Object.{KeepsFirstFault, StaysTold};
 ghost use Rattle.lt_io.specs.Plan.{no_plan, listing, FailsOnly};
 
 use crate::calls::Calls;
@@ -54,7 +54,8 @@ impl MemSink {
 
     /// Keeps how many bytes it holds, where it fails for the first time.
     fn keep_first_fault(&mut self)
-        ensures first { sink_failed_at self.new ≡ option_or (sink_failed_at self.old) (Some (length (sink_held self.old))) }
+        ensures first { sink_failed_at self.new ≡ option_or (sink_failed_at self.old)
+            (Some (length (sink_held self.old))) }
         ensures rest { self.new ≡ record self.old { failed_at = sink_failed_at self.new } }
     {
         if self.failed_at.is_none() {
@@ -91,8 +92,10 @@ impl Sink for MemSink {
         ensures bytes { WriteAppends (Some (sink_held self.old)) (Some (sink_held self.new)) result bytes.now }
         ensures stays { StaysTold (Some (sink_held self.old)) (Some (sink_held self.new)) }
         ensures cause { HasCause (sink_plan self.old).faults (sink_plan self.new).faults result }
-        ensures first_fault { KeepsFirstFault (Some (sink_held self.new)) (sink_failed_at self.old) (sink_failed_at self.new) result }
-        ensures plan { GoesUnlessLacking (sink_plan self.old) (sink_plan self.new) (sink_lacks self.old) (sink_lacks self.new) (is_err result) }
+        ensures first_fault { KeepsFirstFault (Some (sink_held self.new)) (sink_failed_at self.old)
+            (sink_failed_at self.new) result }
+        ensures plan { GoesUnlessLacking (sink_plan self.old) (sink_plan self.new) (sink_lacks self.old)
+            (sink_lacks self.new) (is_err result) }
     {
         if self.calls.next_fails() {
             self.keep_first_fault();

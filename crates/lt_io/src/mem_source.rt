@@ -2,8 +2,8 @@
 
 ghost use Rattle.std.specs.Prelude.{◌≡◌, ◌<◌, ◌≤◌, None, Some, length, min, take, is_err, IfOk, OnOk, OnErr};
 ghost use Rattle.std.specs.Io.KnownBytes.{ReadConsumes};
-ghost use Rattle.lt_model.specs.Disk.{HasCause};
-ghost use Rattle.lt_model.specs.Outside.{KeepsFirstFault, StaysTold};
+ghost use Rattle.lt_world.specs.Disk.{HasCause};
+ghost use Rattle.lt_world.specs.Object.{KeepsFirstFault, StaysTold};
 ghost use Rattle.lt_io.specs.Plan.{no_plan, listing, GoesByPlan, FailsOnly};
 
 use crate::calls::Calls;
@@ -63,7 +63,8 @@ impl Source for MemSource {
         ensures bytes { ReadConsumes (Some (source_left self.old)) (Some (source_left self.new)) result buf.new }
         ensures stays { StaysTold (Some (source_left self.old)) (Some (source_left self.new)) }
         ensures cause { HasCause (source_plan self.old).faults (source_plan self.new).faults result }
-        ensures first_fault { KeepsFirstFault (Some (source_left self.new)) (source_failed_at self.old) (source_failed_at self.new) result }
+        ensures first_fault { KeepsFirstFault (Some (source_left self.new)) (source_failed_at self.old)
+            (source_failed_at self.new) result }
         ensures plan { GoesByPlan (source_plan self.old) (source_plan self.new) (is_err result) }
     {
         if self.calls.next_fails() {

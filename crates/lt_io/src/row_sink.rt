@@ -3,15 +3,12 @@
 ghost use Rattle.std.specs.Prelude.{◌≡◌, ◌∷◌, [], ℕ, List, IsErrOf, OnErr, OnOk};
 ghost use Rattle.std.specs.Io.KnownBytes.{Appends};
 ghost use Rattle.lt_core.specs.View.{view_row};
-ghost use Rattle.lt_model.specs.Disk.{Rose};
-ghost use Rattle.lt_model.specs.Outside.{Given, RowSinkGoes, RowSinkState};
-ghost use Rattle.lt_model.specs.Program.{IsFront};
+ghost use Rattle.lt_world.specs.Disk.{Rose};
+ghost use Rattle.lt_world.specs.RowSink.{Given, RowSinkGoes, RowSinkState};
+ghost use Rattle.lt_world.specs.Object.{IsFront};
 ghost use Rattle.lt_io.specs.declared.row_sink.RowRefusal.TheVariants as refusals;
 
 use lt_core::{Memory, Row};
-
-#[cfg(test)]
-mod tests;
 
 /// Why a row is not taken.
 #[derive(Clone, Copy, Debug, PartialEq, Eq)]
@@ -38,7 +35,9 @@ pub trait RowSink {
     /// Appends a row and its text.
     fn row(&mut self, row: &Row) -> Result<(), RowRefusal>
         ensures ok { OnOk result (Given (state self.old) (state self.new) (view_row row.now ∷ [])) }
-        ensures fault { IsErrOf result RowRefusal.Fault → (front : List ℕ) × IsFront front ((state self.old).spell (view_row row.now)) × Appends (state self.old).told (state self.new).told front }
+        ensures fault { IsErrOf result RowRefusal.Fault → (front : List ℕ)
+            × IsFront front ((state self.old).spell (view_row row.now))
+            × Appends (state self.old).told (state self.new).told front }
         ensures memory { IsErrOf result RowRefusal.Memory → (state self.new).told ≡ (state self.old).told }
         ensures err { OnErr result ((state self.new).rows ≡ (state self.old).rows) }
         ensures goes { RowSinkGoes (state self.old) (state self.new) }

@@ -2,8 +2,8 @@
 
 ghost use Rattle.std.specs.Prelude.{◌<◌, ◌≤◌, length, IfOk};
 ghost use Rattle.std.specs.Io.KnownBytes.{ReadConsumes};
-ghost use Rattle.lt_model.specs.Disk.{HasCause};
-ghost use Rattle.lt_model.specs.Outside.{BytesState, KeepsFirstFault, StaysTold};
+ghost use Rattle.lt_world.specs.Disk.{HasCause};
+ghost use Rattle.lt_world.specs.Object.{BytesState, KeepsFirstFault, StaysTold};
 
 use crate::faults::ReadFault;
 
@@ -19,5 +19,6 @@ pub trait Source {
         ensures bytes { ReadConsumes (state self.old).told (state self.new).told result buf.new }
         ensures stays { StaysTold (state self.old).told (state self.new).told }
         ensures cause { HasCause (state self.old).faults (state self.new).faults result }
-        ensures first_fault { KeepsFirstFault (state self.new).told (state self.old).failed_at (state self.new).failed_at result };
+        ensures first_fault { KeepsFirstFault (state self.new).told (state self.old).failed_at
+            (state self.new).failed_at result };
 }

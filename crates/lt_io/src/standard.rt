@@ -3,8 +3,8 @@
 
 ghost use Rattle.std.specs.Prelude.{◌≡◌, ◌<◌, ◌≤◌, ℕ, List, None, length, IfOk};
 ghost use Rattle.std.specs.Io.KnownBytes.{ReadConsumes, WriteAppends};
-ghost use Rattle.lt_model.specs.Disk.{HasCause};
-ghost use Rattle.lt_model.specs.Outside.{KeepsFirstFault, StaysTold};
+ghost use Rattle.lt_world.specs.Disk.{HasCause};
+ghost use Rattle.lt_world.specs.Object.{KeepsFirstFault, StaysTold};
 
 use crate::faults::{ReadFault, WriteFault};
 use crate::sink::Sink;
@@ -55,7 +55,8 @@ impl<R: Read, C: Clock> Source for StdSource<R, C> {
         ensures stays { StaysTold {A = List ℕ} None None }
         ensures cause { HasCause (std_source_faults self.old) (std_source_faults self.new) result }
         ensures first_fault { KeepsFirstFault None None None result }
-        ensures passes { ReadConsumes (R.remaining (std_source_inner self.old)) (R.remaining (std_source_inner self.new)) result buf.new }
+        ensures passes { ReadConsumes (R.remaining (std_source_inner self.old))
+            (R.remaining (std_source_inner self.new)) result buf.new }
     {
         let answer = read_some(&self.clock, &mut self.inner, buf);
         if answer.is_err() {
@@ -126,7 +127,8 @@ impl<W: Write, C: Clock> Sink for StdSink<W, C> {
         ensures stays { StaysTold {A = List ℕ} None None }
         ensures cause { HasCause (std_sink_faults self.old) (std_sink_faults self.new) result }
         ensures first_fault { KeepsFirstFault None None None result }
-        ensures passes { WriteAppends (W.contents (std_sink_inner self.old)) (W.contents (std_sink_inner self.new)) result bytes.now }
+        ensures passes { WriteAppends (W.contents (std_sink_inner self.old)) (W.contents (std_sink_inner self.new))
+            result bytes.now }
     {
         let answer = write_some(&self.clock, &mut self.inner, bytes);
         if answer.is_err() {

@@ -1,31 +1,35 @@
 -- A session in which a partition lists a new delta of what was pending there is good; the names stay pending until the partition is durable.
-use Rattle.std.proofs.Common.{Bool, List, [], ap, arith, cond, eq-eqb, false, le-leb, length, lt-ltb, refl, subst, suc, sym, true, ℕ, ◌+◌, ◌++◌, ◌<◌, ◌∙◌, ◌∷◌, ◌≡◌, ◌≤◌}
+use Rattle.std.proofs.Common.{Bool, List, [], ap, arith, cond, eq-eqb, false, le-leb, length, lt-ltb, refl, subst, suc, sym, true, ℕ, ◌++◌, ◌+◌, ◌<◌, ◌∙◌, ◌∷◌, ◌≡◌, ◌≤◌}
 use Rattle.std.specs.Prelude.{Contains, IsTrue, Option, Some, find, is_some, map, nat_le, nat_lt, slice_get, sum, zip, ◌&&◌, ◌==◌, ◌^◌, ◌||◌}
 use Rattle.std.specs.List.{AllByRecursion, list_all, list_any}
 use Rattle.std.proofs.lemmas.Bool.{and_from, and_parts}
 use Rattle.std.proofs.lemmas.List.{length-append, map-append}
-use Rattle.lt_model.specs.Value.{rises_above, rises_strictly}
-use Rattle.lt_model.specs.Key.{Range, max_key, tile}
-use Rattle.lt_model.specs.Schema.{change_at}
-use Rattle.lt_model.specs.Log.{Header, Item}
-use Rattle.lt_model.specs.Fair.{Feed}
-use Rattle.lt_model.specs.Store.{AreLawfulTables, Delta, Durable, IsLawfulPart, Manifest, Part, bare_manifest, carried_versions, delta_with, deltas_of, fits_63, is_delta_entry, is_part_entry, part_ranges}
-use Rattle.lt_model.specs.Version.{RowVersion, clip, merge}
-use Rattle.lt_model.specs.Bundle.{grouped}
-use Rattle.lt_model.specs.Machine.{Job, State, cat_of, delta_of, flushed_lists, pending_of, ranges_of, table_numbers}
-use Rattle.lt_model.specs.Sound.{IsGood, JobBegan, JobStands, PendingOfAll, SoundPart, SoundParts, passed, source_of}
-use Rattle.lt_laws.proofs.AnswerLaws.{sound_from}
+use Rattle.lt_terms.specs.Value.{rises_above, rises_strictly}
+use Rattle.lt_terms.specs.Key.{Range, max_key, tile}
+use Rattle.lt_terms.specs.Log.{Header, Item}
+use Rattle.lt_world.specs.Feed.{Feed}
+use Rattle.lt_tables.specs.Pump.{Part}
+use Rattle.lt_tables.specs.Schema.{change_at}
+use Rattle.lt_tables.specs.Version.{RowVersion, clip, merge}
+use Rattle.lt_storage.specs.Store.{AreLawfulTables, Delta, Durable, IsLawfulPart, Manifest, bare_manifest, carried_versions, delta_with, deltas_of, fits_63, is_delta_entry, is_part_entry, part_ranges}
+use Rattle.lt_storage.specs.Bundle.{grouped}
+use Rattle.lt_machine.specs.Machine.{Job, State, cat_of, delta_of, flushed_lists, pending_of, ranges_of, table_numbers}
+use Rattle.lt_machine.specs.Sound.{IsGood, JobBegan, JobStands, PendingOfAll, SoundPart, SoundParts, passed, source_of}
+use Rattle.lt_codecs.proofs.ListFacts.{all_append, all_map}
+use Rattle.lt_lemmas.proofs.TakenLaws.{any_append}
+use Rattle.lt_lemmas.proofs.ListFacts.{all_from}
+use Rattle.lt_lemmas.proofs.PartsChanged.{changed_there, length_changed}
 use Rattle.lt_laws.proofs.DeltaAdded.{Adds, IsSource, lists_too, part_added, part_other, pending_grown, stands_added, stands_other, store_grown, stored_as, with_one}
 use Rattle.lt_laws.proofs.DurableFacts.{IsKnown, listed_known, map_tests, mapped_any, named_at, part_entries, shelf_below}
-use Rattle.lt_laws.proofs.ListFacts.{all_append, all_at, all_from, all_map}
-use Rattle.lt_laws.proofs.NewDelta.{flushed_lawful, tests_hold}
-use Rattle.lt_laws.proofs.PartsChanged.{all_changed, any_changed, any_there, change_none, changed_there, each_changed, length_changed, lows_changed, pending_at, pending_changed, ranges_changed}
-use Rattle.lt_laws.proofs.RangeLaws.{source_in_time}
 use Rattle.lt_laws.proofs.ReadLaws.{or_left, or_right}
-use Rattle.lt_laws.proofs.ShelfGrowth.{flushed_carried, known_stays, named_stay}
+use Rattle.lt_laws.proofs.NewDelta.{flushed_lawful, tests_hold}
+use Rattle.lt_laws.proofs.ListFacts.{all_at}
+use Rattle.lt_laws.proofs.PartsChanged.{all_changed, any_changed, any_there, change_none, each_changed, lows_changed, pending_at, pending_changed, ranges_changed}
 use Rattle.lt_laws.proofs.SplitLaws.{Each, StandsAt, each_pair, each_sound, each_zipped, lows_of, sound_each, zipped_each}
+use Rattle.lt_laws.proofs.AnswerLaws.{sound_from}
+use Rattle.lt_laws.proofs.RangeLaws.{source_in_time}
+use Rattle.lt_laws.proofs.ShelfGrowth.{flushed_carried, known_stays, named_stay}
 use Rattle.lt_laws.proofs.StepLaws.{if_some}
-use Rattle.lt_laws.proofs.TakenLaws.{any_append}
 
 -- ---- entries of a manifest, in parts
 

@@ -1,6 +1,6 @@
 -- Each step keeps a good session: the rows of the commands, joined.
-use Rattle.lt_model.specs.Sound.{StepKeeps}
-use Rattle.lt_model.specs.Script.{do_compact, do_deltas, do_flush, do_job_begin, do_job_drop, do_job_finish, do_job_step, do_page, do_pump, do_reopen, do_retain, do_retire, do_scan, do_schema, do_split, do_status}
+use Rattle.lt_tables.specs.Query.{do_compact, do_deltas, do_flush, do_job_begin, do_job_drop, do_job_finish, do_job_step, do_page, do_pump, do_reopen, do_retain, do_retire, do_scan, do_schema, do_split, do_status}
+use Rattle.lt_machine.specs.Sound.{StepKeeps}
 use Rattle.lt_laws.proofs.CatalogueSteps.{retire_keeps, schema_keeps}
 use Rattle.lt_laws.proofs.CompactLaws.{compact_keeps, job_finish_keeps}
 use Rattle.lt_laws.proofs.FlushLaws.{flush_keeps}

@@ -1,39 +1,43 @@
 -- A scan at a safe moment: what is held and read by a live version answers as the source's snapshot does.
-use Rattle.std.proofs.Common.{Bool, List, [], ap, ap₂, arith, cond, eq-eqb, false, leb-true, ne_eqb, refl, subst, suc, sym, take, true, zero, ℕ, ◌+◌, ◌++◌, ◌<◌, ◌∙◌, ◌∷◌, ◌≡◌, ◌≤◌}
+use Rattle.std.proofs.Common.{Bool, List, [], ap, ap₂, arith, cond, eq-eqb, false, leb-true, ne_eqb, refl, subst, suc, sym, take, true, zero, ℕ, ◌++◌, ◌+◌, ◌<◌, ◌∙◌, ◌∷◌, ◌≡◌, ◌≤◌}
 use Rattle.std.specs.Prelude.{Contains, IsTrue, None, Option, Some, filter, find, flat_map, map, nat_le, nat_lt, option_map, ⊤, ◌&&◌}
-use Rattle.std.specs.Int.{to_be_bytes, w32}
 use Rattle.std.specs.List.{AllByRecursion}
-use Rattle.std.specs.Option.{option_map_or}
 use Rattle.std.proofs.lemmas.Bool.{and_parts}
+use Rattle.std.specs.Int.{to_be_bytes, w32}
 use Rattle.std.proofs.lemmas.List.{take_at}
-use Rattle.lt_model.specs.Value.{Value}
-use Rattle.lt_model.specs.Key.{KeyPart, Range, below, bytes_cmp, in_range, is_key_of, key_bytes, part_bytes, part_value, same_key}
-use Rattle.lt_model.specs.Layout.{Leaf, flatten}
-use Rattle.lt_model.specs.Schema.{Catalogue, Column, IsCatalogue, Registered, Table, carriers, key_kinds, registered, table_named, table_numbered}
-use Rattle.lt_model.specs.Log.{Change, Header, Item, change_key, changes_of, is_change, u32}
-use Rattle.lt_model.specs.Fair.{Feed, changes_to}
-use Rattle.lt_model.specs.Laws.{AreKeyed}
-use Rattle.lt_model.specs.Row.{Entry, changes_up_to, entry_of, read_row, row_after, row_at, snapshot}
-use Rattle.lt_model.specs.Bundle.{has_table}
-use Rattle.lt_model.specs.Machine.{State, cat_of, first_below, query_interval}
-use Rattle.lt_model.specs.Version.{RowVersion, asof, carried, is_insert, is_ordered, read_cells, rolled_up}
-use Rattle.lt_model.specs.Sound.{Fronts, FrontsFrom, IsGood, ReadAll, ReadsAs, ScanIsSnapshot, held_versions, row_cells, source_of}
-use Rattle.lt_laws.proofs.CatalogueLaws.{AllPast, NumbersRise, numbers_rise}
-use Rattle.lt_laws.proofs.ConversionLemmas.{same_bytes-self}
-use Rattle.lt_model.specs.Conversion.{same_bytes}
-use Rattle.lt_laws.proofs.EntryLaws.{AreEntriesOver, EntriesRise, entry_for, same_entries, snapshot_found, snapshot_from, snapshot_rises}
-use Rattle.lt_laws.proofs.ListFacts.{all_append, all_both, all_filter, find_held, mapped_some}
-use Rattle.lt_laws.proofs.MergeLaws.{Above, merge-ordered, ordered-above, ordered-tail}
+use Rattle.std.specs.Option.{option_map_or}
+use Rattle.lt_terms.specs.Key.{KeyPart, Range, below, bytes_cmp, in_range, is_key_of, key_bytes, part_bytes, part_value, same_key}
+use Rattle.lt_terms.specs.Layout.{Leaf, flatten}
+use Rattle.lt_terms.specs.Conversion.{same_bytes}
+use Rattle.lt_terms.specs.Log.{Change, Header, Item, change_key, changes_of, is_change, u32}
+use Rattle.lt_terms.specs.Value.{Value}
+use Rattle.lt_world.specs.Feed.{Feed}
+use Rattle.lt_tables.specs.Version.{RowVersion, asof, carried, is_insert, is_ordered, read_cells, rolled_up}
+use Rattle.lt_tables.specs.Schema.{Catalogue, Column, IsCatalogue, Registered, Table, carriers, key_kinds, registered, table_named, table_numbered}
+use Rattle.lt_tables.specs.Row.{AreKeyed, Entry, changes_up_to, entry_of, read_row, row_after, row_at, snapshot}
+use Rattle.lt_tables.specs.Fair.{changes_to}
+use Rattle.lt_storage.specs.Bundle.{has_table}
+use Rattle.lt_machine.specs.Sound.{Fronts, FrontsFrom, IsGood, ReadAll, ReadsAs, ScanIsSnapshot, held_versions, row_cells, source_of}
+use Rattle.lt_machine.specs.Machine.{State, cat_of, first_below, query_interval}
+use Rattle.lt_codecs.proofs.ListFacts.{all_append, all_both}
+use Rattle.lt_lemmas.proofs.MergeLaws.{Above, ordered-above, ordered-tail}
+use Rattle.lt_lemmas.proofs.ListFacts.{all_filter, find_held, mapped_some}
+use Rattle.lt_lemmas.proofs.CatalogueLaws.{AllPast, NumbersRise, numbers_rise}
+use Rattle.lt_lemmas.proofs.SnapshotLaws.{IsNamed, Named, table_of_key}
+use Rattle.lt_lemmas.proofs.ConversionLemmas.{same_bytes-self}
+use Rattle.lt_lemmas.proofs.RowLemmas.{reads_in_order}
+use Rattle.lt_lemmas.proofs.TableLaws.{fine_table}
+use Rattle.lt_lemmas.proofs.TakenLaws.{number_fits}
+use Rattle.lt_lemmas.proofs.PointLaws.{same}
 use Rattle.lt_laws.proofs.MomentLaws.{Lone, NoKey, lower-by, rolled-lone, rolled-ordered}
-use Rattle.lt_laws.proofs.PointLaws.{same}
-use Rattle.lt_laws.proofs.RangeLaws.{source_in_time}
+use Rattle.lt_laws.proofs.EntryLaws.{AreEntriesOver, EntriesRise, entry_for, same_entries, snapshot_found, snapshot_from, snapshot_rises}
+use Rattle.lt_laws.proofs.TakenLaws.{Passes, fair_passes, lawful_changes, source_keyed}
 use Rattle.lt_laws.proofs.ReadLaws.{RowWithin, change_within, row_reads, row_within}
-use Rattle.lt_laws.proofs.RowLemmas.{reads_in_order}
-use Rattle.lt_laws.proofs.ScanLaws.{key_reads}
 use Rattle.lt_laws.proofs.ScanLemmas.{AreOf, IsWithin}
-use Rattle.lt_laws.proofs.SnapshotLaws.{IsNamed, Named, answer_within, table_of_key}
-use Rattle.lt_laws.proofs.TableLaws.{fine_table}
-use Rattle.lt_laws.proofs.TakenLaws.{Passes, fair_passes, lawful_changes, number_fits, source_keyed}
+use Rattle.lt_laws.proofs.RangeLaws.{source_in_time}
+use Rattle.lt_laws.proofs.ScanLaws.{key_reads}
+use Rattle.lt_laws.proofs.MergeLaws.{merge-ordered}
+use Rattle.lt_laws.proofs.SnapshotLaws.{answer_within}
 
 -- ---- a reading at a moment has each key once, by rising key
 

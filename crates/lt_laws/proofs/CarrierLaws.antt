@@ -1,16 +1,17 @@
 -- Carriers: what lies within one of the kinds that they join lies within them, and they keep what those kinds have in common.
-use Rattle.std.proofs.Common.{Bool, List, ap, ap₂, arith, cond, eq-eqb, eqb-true, ne_eqb, false, leb-true, le-leb, lt-ltb, ltb-false, ltb-true, refl, subst, sym, true, ℕ, ◌+◌, ◌-◌, ◌<◌, ◌∙◌, ◌≡◌, ◌≤◌}
+use Rattle.std.proofs.Common.{Bool, List, ap, ap₂, arith, cond, eq-eqb, eqb-true, false, le-leb, leb-true, lt-ltb, ltb-false, ltb-true, ne_eqb, refl, subst, sym, true, ℕ, ◌+◌, ◌-◌, ◌<◌, ◌∙◌, ◌≡◌, ◌≤◌}
 use Rattle.std.specs.Prelude.{IsTrue, None, Option, Some, max, nat_le, nat_lt, not, option_map, ◌&&◌, ◌==◌, ◌||◌}
 use Rattle.std.specs.Str.{is_utf8}
-use Rattle.std.specs.Option.{option_map_or}
 use Rattle.std.proofs.lemmas.Bool.{and_from, and_parts, eqb-false, false≢true, or_parts}
-use Rattle.lt_model.specs.declared.Rank.{Rank}
-use Rattle.lt_model.specs.Value.{Fields, Value, bool_value, bytes_value, field_value, fits_64, int_value, no_fields, null_value, struct_value, text_value}
-use Rattle.lt_model.specs.Kind.{FieldKinds, Kind, enumeration, field_kind, greater_rank, has_shape, have_shapes, is_struct, kind_at, kinds_of, nesting, nestings, no_kinds, plain, rank_number, rank_of, structured}
-use Rattle.lt_model.specs.Schema.{bare, bare_fields, clash, clash_within, joined, joined_fields, put_kind}
-use Rattle.lt_model.specs.Laws.{fields_within, lies_within, own_rank}
-use Rattle.lt_laws.proofs.ConversionLemmas.{are_rising, is_rising, rank_within}
-use Rattle.lt_model.specs.declared.Rank.TheVariants as rank
+use Rattle.std.specs.Option.{option_map_or}
+use Rattle.lt_terms.specs.declared.Rank.{Rank}
+use Rattle.lt_terms.specs.Kind.{FieldKinds, Kind, enumeration, field_kind, greater_rank, has_shape, have_shapes, is_struct, kind_at, kinds_of, nesting, nestings, no_kinds, plain, rank_number, rank_of, structured}
+use Rattle.lt_terms.specs.Value.{Fields, Value, bool_value, bytes_value, field_value, fits_64, int_value, no_fields, null_value, struct_value, text_value}
+use Rattle.lt_tables.specs.Schema.{bare, bare_fields, clash, clash_within, joined, joined_fields, put_kind}
+use Rattle.lt_machine.specs.Laws.{fields_within, lies_within, own_rank}
+use Rattle.lt_lemmas.proofs.ConversionLemmas.{are_rising, is_rising}
+use Rattle.lt_laws.proofs.ConversionLemmas.{rank_within}
+use Rattle.lt_terms.specs.declared.Rank.TheVariants as rank
 
 -- ---- ranks
 

@@ -1,13 +1,15 @@
 -- A catalogue that grew keeps what was fair: registered versions stay, with their keys and columns.
-use Rattle.std.proofs.Common.{Bool, List, [], ap, ap₂, arith, cond, false, ltb-false, ltb-true, refl, subst, suc, sym, true, zero, ℕ, ◌++◌, ◌<◌, ◌∙◌, ◌∷◌, ◌≡◌}
-use Rattle.std.specs.Prelude.{None, Option, Some, if◌then◌else◌, is_none, nat_lt, not, option_and_then, option_map, slice_get, ⊤, ◌&&◌, ◌-◌, ◌==◌}
+use Rattle.std.proofs.Common.{Bool, List, [], ap, ap₂, arith, cond, false, ltb-true, refl, suc, sym, true, zero, ℕ, ◌++◌, ◌<◌, ◌∙◌, ◌∷◌, ◌≡◌}
+use Rattle.std.specs.Prelude.{None, Option, Some, is_none, nat_lt, not, option_and_then, option_map, slice_get, ◌&&◌, ◌-◌, ◌==◌}
 use Rattle.std.specs.Option.{option_map_or, option_or}
-use Rattle.std.proofs.lemmas.Bool.{and_from, eqb-false, eqb-true, ne_eqb}
-use Rattle.lt_model.specs.Key.{in_range, is_key_of}
-use Rattle.lt_model.specs.Schema.{Became, Catalogue, Column, IsCatalogue, KeyColumn, Registered, SchemaVersion, Table, after_adding, after_retiring, as_it_was, change_at, first_of, key_kinds, live_version, new_table, nothing_yet, registered, retired_version, sets_shape, table_numbered, then_added, then_retired, when, with_retired, with_version, without_version}
-use Rattle.lt_model.specs.Log.{Change, Header, Item, batch_item, change_item, change_key, checkpoint_item, close_item, header_item}
-use Rattle.lt_model.specs.Fair.{Unfair, after_close, bad_shape, breaks, change_fault, changes_fault, checkpoint_of, fair_after, has_change_shape, is_closed, is_fair, item_fault, last_ts, out_of_range, unknown_table_number, unknown_version_number}
-use Rattle.lt_laws.proofs.PointLaws.{first_of-append, left, none, or_left, or_right, right, shape_faults, time_faults}
+use Rattle.std.proofs.lemmas.Bool.{and_from, eqb-true, ne_eqb}
+use Rattle.lt_terms.specs.Key.{in_range, is_key_of}
+use Rattle.lt_terms.specs.Log.{Change, Header, Item, batch_item, change_item, change_key, checkpoint_item, close_item, header_item}
+use Rattle.lt_tables.specs.Schema.{Became, Catalogue, Column, IsCatalogue, KeyColumn, Registered, SchemaVersion, Table, after_adding, after_retiring, as_it_was, change_at, first_of, key_kinds, live_version, new_table, registered, retired_version, sets_shape, table_numbered, then_added, then_retired, when, with_retired, with_version, without_version}
+use Rattle.lt_tables.specs.Fair.{Unfair, after_close, bad_shape, breaks, change_fault, changes_fault, checkpoint_of, fair_after, has_change_shape, is_closed, is_fair, item_fault, last_ts, out_of_range, unknown_table_number, unknown_version_number}
+use Rattle.lt_codecs.proofs.ListFacts.{or_left, or_right}
+use Rattle.lt_lemmas.proofs.PointLaws.{first_of-append, left, none, right, shape_faults, time_faults}
+use Rattle.lt_lemmas.proofs.CatalogueLaws.{AllPast, NumbersRise, numbers_rise, past_trans, retired_where, same_number}
 
 -- ---- a longer catalogue
 
@@ -80,13 +82,6 @@ changed_at (x ∷ xs) zero (suc m) r e = (r, e, refl)
 changed_at (x ∷ xs) (suc k) zero r e = (r, e, refl)
 changed_at (x ∷ xs) (suc k) (suc m) r e = changed_at xs k m r e
 
-abbrev pub retired_where : ℕ → ℕ → Table → Table
-retired_where number v t = if t.number == number then with_retired v t else t
-
-same_number : (b : Bool) (v : ℕ) (t : Table) → (cond b (with_retired v t) t).number ≡ t.number
-same_number true v t = refl
-same_number false v t = refl
-
 found_through : (f : Table → Table) (t : Table) (b : Bool) (x y : Option Table) → x ≡ option_map f y → cond b (Some (f t)) x ≡ option_map f (cond b (Some t) y)
 found_through f t true x y e = refl
 found_through f t false x y e = e
@@ -108,18 +103,6 @@ stays_retired cat number v = record {
 
 -- ---- a version added; in a lawful catalogue the tables' numbers rise
 
-abbrev pub AllPast : ℕ → Catalogue → Type 0
-AllPast n [] = ⊤
-AllPast n (t ∷ ts) = (n < t.number) × AllPast n ts
-
-abbrev pub NumbersRise : Catalogue → Type 0
-NumbersRise [] = ⊤
-NumbersRise (t ∷ ts) = AllPast t.number ts × NumbersRise ts
-
-pub past_trans : (m n : ℕ) (ts : Catalogue) → m < n → AllPast n ts → AllPast m ts
-past_trans m n [] h a = tt
-past_trans m n (t ∷ ts) h a = (omega (arith, h, a.0), past_trans m n ts h a.1)
-
 past_found_by : (m n : ℕ) (u : Table) (b : Bool) (x : Option Table) (t : Table) → (u.number == n) ≡ b → m < u.number → (x ≡ Some t → m < n) → cond b (Some u) x ≡ Some t → m < n
 past_found_by m n u true x t e h k f = omega (arith, h, eqb-true u.number n e)
 past_found_by m n u false x t e h k f = k f
@@ -127,39 +110,6 @@ past_found_by m n u false x t e h k f = k f
 pub past_found : (m n : ℕ) (ts : Catalogue) (t : Table) → AllPast m ts → table_numbered ts n ≡ Some t → m < n
 past_found m n [] t a e = cc
 past_found m n (u ∷ ts) t a e = past_found_by m n u (u.number == n) (table_numbered ts n) t refl a.0 (past_found m n ts t a.1) e
-
-past_added_by : (m : ℕ) (v : SchemaVersion) (t : Table) (ts : Catalogue) (b d : Bool) → m < v.number → AllPast m (t ∷ ts) → AllPast m (with_version ts v)
-    → AllPast m (cond b (record t { versions = t.versions ++ live_version v.columns ∷ [] } ∷ ts) (cond d (new_table v ∷ t ∷ ts) (t ∷ with_version ts v)))
-past_added_by m v t ts true d h a ih = a
-past_added_by m v t ts false true h a ih = (h, a)
-past_added_by m v t ts false false h a ih = (a.0, ih)
-
-past_added : (m : ℕ) (v : SchemaVersion) (ts : Catalogue) → m < v.number → AllPast m ts → AllPast m (with_version ts v)
-past_added m v [] h a = (h, tt)
-past_added m v (t ∷ ts) h a = past_added_by m v t ts (t.number == v.number) (nat_lt v.number t.number) h a (past_added m v ts h a.1)
-
-rise_added_by : (v : SchemaVersion) (t : Table) (ts : Catalogue) (b d : Bool) → (t.number == v.number) ≡ b → nat_lt v.number t.number ≡ d → NumbersRise (t ∷ ts) → NumbersRise (with_version ts v)
-    → NumbersRise (cond b (record t { versions = t.versions ++ live_version v.columns ∷ [] } ∷ ts) (cond d (new_table v ∷ t ∷ ts) (t ∷ with_version ts v)))
-rise_added_by v t ts true d e f a ih = a
-rise_added_by v t ts false true e f a ih = let h : v.number < t.number = ltb-true v.number t.number f in ((h, past_trans v.number t.number ts h a.0), a)
-rise_added_by v t ts false false e f a ih = let h : t.number < v.number = omega (arith, eqb-false t.number v.number e, ltb-false v.number t.number f) in (past_added t.number v ts h a.0, ih)
-
-rise_added : (v : SchemaVersion) (ts : Catalogue) → NumbersRise ts → NumbersRise (with_version ts v)
-rise_added v [] a = (tt, tt)
-rise_added v (t ∷ ts) a = rise_added_by v t ts (t.number == v.number) (nat_lt v.number t.number) refl refl a (rise_added v ts a.1)
-
-past_retired : (m number v : ℕ) (ts : Catalogue) → AllPast m ts → AllPast m (without_version ts number v)
-past_retired m number v [] a = tt
-past_retired m number v (t ∷ ts) a = (subst (λ (n : ℕ). m < n) (sym (same_number (t.number == number) v t)) a.0, past_retired m number v ts a.1)
-
-rise_retired : (number v : ℕ) (ts : Catalogue) → NumbersRise ts → NumbersRise (without_version ts number v)
-rise_retired number v [] a = tt
-rise_retired number v (t ∷ ts) a = (subst (λ (n : ℕ). AllPast n (without_version ts number v)) (sym (same_number (t.number == number) v t)) (past_retired t.number number v ts a.0), rise_retired number v ts a.1)
-
-pub numbers_rise : (cat : Catalogue) → IsCatalogue cat → NumbersRise cat
-numbers_rise _ nothing_yet = tt
-numbers_rise _ (after_adding cat v is e) = rise_added v cat (numbers_rise cat is)
-numbers_rise _ (after_retiring cat number v is e) = rise_retired number v cat (numbers_rise cat is)
 
 got_more : {A : Type 0} (xs ys : List A) (m : ℕ) (r : A) → slice_get xs m ≡ Some r → slice_get (xs ++ ys) m ≡ Some r
 got_more [] ys m r e = cc

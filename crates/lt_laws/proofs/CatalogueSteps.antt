@@ -1,44 +1,49 @@
 -- A version that is added or retired keeps a good session: all that is stored and pending goes over to the new carriers.
 use Rattle.std.proofs.Common.{Bool, List, [], ap, ap₂, arith, cond, eqb-true, false, inl, inr, length, refl, subst, suc, sym, take, true, zero, ℕ, ◌+◌, ◌<◌, ◌∙◌, ◌∷◌, ◌≡◌}
-use Rattle.std.specs.Prelude.{Contains, Err, IsTrue, None, Ok, Option, Result, Some, filter, if◌then◌else◌, is_none, map, not, option_and_then, nat_le, option_map, zip, ◌&&◌, ◌==◌, ◌^◌, ◌⊎◌}
 use Rattle.std.specs.List.{AllByRecursion, list_any}
+use Rattle.std.specs.Prelude.{Contains, Err, IsTrue, None, Ok, Option, Result, Some, filter, if◌then◌else◌, is_none, map, nat_le, not, option_and_then, option_map, zip, ◌&&◌, ◌==◌, ◌^◌, ◌⊎◌}
 use Rattle.std.specs.Option.{option_map_or}
 use Rattle.std.proofs.lemmas.Bool.{false≢true, not-false}
-use Rattle.lt_model.specs.Value.{is_number}
-use Rattle.lt_model.specs.Laws.{IsKeyed}
-use Rattle.lt_model.specs.Key.{Range, common, in_range, meets, same_key}
-use Rattle.lt_model.specs.Layout.{Cell, Leaf, coerce}
-use Rattle.lt_model.specs.Schema.{already_retired, as_it_was, Became, Catalogue, IsCatalogue, Registered, SchemaFault, SchemaVersion, Table, carriers, err_or, last_version, registered, retire_fault, schema_fault, table_named, table_numbered, then_added, then_retired, unknown_table, unknown_version, when, with_version, without_version}
-use Rattle.lt_model.specs.Log.{Change, Header, Item, change_key, changes_of}
-use Rattle.lt_model.specs.Fair.{Feed, changes_to, header_length}
-use Rattle.lt_model.specs.Row.{in_time, row_after, row_at}
-use Rattle.lt_model.specs.Bundle.{has_table}
-use Rattle.lt_model.specs.Version.{RowVersion, clip, coerce_all, coerced, effect_of, merge, same_name, seen}
-use Rattle.lt_model.specs.Store.{AreLawfulTables, IsLawfulTable, Delta, Durable, Part, TableDelta, table_of, versions_in, carried_versions, deltas_of, merged_in, stored}
-use Rattle.lt_model.specs.Machine.{Job, State, StreamAt, added_read, cat_of, is_worn, ranges_of, registered_named, with_catalogue, with_cause}
-use Rattle.lt_model.specs.Reply.{is_last_version, no_such_version, version_retired, worn}
-use Rattle.lt_model.specs.SchemaText.{JsonFault, version_of_text}
-use Rattle.lt_model.specs.Script.{do_retire, do_schema}
-use Rattle.lt_laws.proofs.FrontStands.{fronts_grow}
-use Rattle.lt_laws.proofs.PointLaws.{when_none}
-use Rattle.lt_laws.proofs.StepLaws.{KeepsDoing, if_some, next_generation, unrefused}
-use Rattle.lt_model.specs.Sound.{AreAtPlaces, Fronts, FrontsFrom, IsGood, JobBegan, JobStands, ListsAll, PendingOf, PendingOfAll, SoundPart, SoundParts, items_before, passed, row_cells, source_of, up_to_ts}
-use Rattle.lt_laws.proofs.AnswerLaws.{IsSound, named_is_numbered, sound_from}
-use Rattle.lt_laws.proofs.CoerceLaws.{AreLong, effect_coerced}
-use Rattle.lt_laws.proofs.JobLaws.{puts_from}
-use Rattle.lt_laws.proofs.ListFacts.{all_append, all_at, all_filter, all_from, all_front, all_map, find_held, from_map, in_map}
-use Rattle.lt_laws.proofs.FairLaws.{row_stays}
-use Rattle.lt_laws.proofs.FrontLaws.{fronts_stay, grows_itself}
-use Rattle.lt_laws.proofs.PointLaws.{same}
-use Rattle.lt_laws.proofs.ScanLemmas.{from-filter, in-filter}
-use Rattle.lt_laws.proofs.SoundLaws.{Back, IsLonger, before-take, behind-more, changes-take, longer-by, past-key, places-more, points-more, source-back, source-more}
-use Rattle.lt_laws.proofs.RetainLaws.{all_of, table_of_has}
-use Rattle.lt_laws.proofs.TableLaws.{fine_table}
-use Rattle.lt_laws.proofs.TakenLaws.{number_fits, source_keyed}
-use Rattle.lt_laws.proofs.VersionGrowth.{Grew, grew_added, grew_retired, its_number}
-use Rattle.lt_laws.proofs.WidenedRows.{row_goes, seen_goes, sound_shape}
-use Rattle.lt_laws.proofs.WidenedStore.{delta_goes, delta_stays, merged_goes, named_lawful}
+use Rattle.lt_terms.specs.Key.{Range, common, in_range, meets, same_key}
+use Rattle.lt_terms.specs.Log.{Change, Header, Item, change_key, changes_of}
+use Rattle.lt_terms.specs.Layout.{Cell, Leaf, coerce}
+use Rattle.lt_terms.specs.Value.{is_number}
+use Rattle.lt_world.specs.Feed.{Feed}
+use Rattle.lt_tables.specs.Schema.{Became, Catalogue, IsCatalogue, Registered, SchemaFault, SchemaVersion, Table, already_retired, as_it_was, carriers, err_or, last_version, registered, retire_fault, schema_fault, table_named, table_numbered, then_added, then_retired, unknown_table, unknown_version, when, with_version, without_version}
+use Rattle.lt_tables.specs.Version.{RowVersion, clip, coerce_all, coerced, effect_of, merge, same_name, seen}
+use Rattle.lt_tables.specs.Pump.{Part, StreamAt}
+use Rattle.lt_tables.specs.Row.{IsKeyed, in_time, row_after, row_at}
+use Rattle.lt_tables.specs.Fair.{changes_to, header_length}
+use Rattle.lt_tables.specs.Query.{do_retire, do_schema}
+use Rattle.lt_words.specs.Reply.{is_last_version, no_such_version, version_retired, worn}
+use Rattle.lt_words.specs.SchemaText.{JsonFault, version_of_text}
+use Rattle.lt_storage.specs.Store.{AreLawfulTables, Delta, Durable, IsLawfulTable, TableDelta, carried_versions, deltas_of, merged_in, stored, table_of, versions_in}
+use Rattle.lt_storage.specs.Bundle.{has_table}
+use Rattle.lt_machine.specs.Sound.{AreAtPlaces, Fronts, FrontsFrom, IsGood, JobBegan, JobStands, ListsAll, PendingOf, PendingOfAll, SoundPart, SoundParts, items_before, passed, row_cells, source_of, up_to_ts}
+use Rattle.lt_machine.specs.Machine.{Job, State, added_read, cat_of, is_worn, ranges_of, registered_named, with_catalogue, with_cause}
 use Rattle.lt_codecs.proofs.LogLaws.{frames_prefix_free}
+use Rattle.lt_codecs.proofs.ListFacts.{all_append, all_front, all_map}
+use Rattle.lt_lemmas.proofs.ListFacts.{all_filter, all_from, find_held, when_none}
+use Rattle.lt_lemmas.proofs.FrontLaws.{grows_itself}
+use Rattle.lt_lemmas.proofs.TableLaws.{fine_table}
+use Rattle.lt_lemmas.proofs.TakenLaws.{number_fits}
+use Rattle.lt_lemmas.proofs.VersionGrowth.{its_number}
+use Rattle.lt_lemmas.proofs.PointLaws.{same}
+use Rattle.lt_laws.proofs.VersionGrowth.{Grew, grew_added, grew_retired}
+use Rattle.lt_laws.proofs.WidenedStore.{delta_goes, delta_stays, merged_goes, named_lawful}
+use Rattle.lt_laws.proofs.ListFacts.{all_at, from_map, in_map}
+use Rattle.lt_laws.proofs.AnswerLaws.{IsSound, named_is_numbered, sound_from}
+use Rattle.lt_laws.proofs.WidenedRows.{row_goes, seen_goes, sound_shape}
+use Rattle.lt_laws.proofs.JobLaws.{puts_from}
+use Rattle.lt_laws.proofs.CoerceLaws.{AreLong, effect_coerced}
+use Rattle.lt_laws.proofs.ScanLemmas.{from-filter, in-filter}
+use Rattle.lt_laws.proofs.FrontLaws.{fronts_stay}
+use Rattle.lt_laws.proofs.SoundLaws.{Back, IsLonger, before-take, behind-more, changes-take, longer-by, past-key, places-more, points-more, source-back, source-more}
+use Rattle.lt_laws.proofs.FairLaws.{row_stays}
+use Rattle.lt_laws.proofs.TakenLaws.{source_keyed}
+use Rattle.lt_laws.proofs.RetainLaws.{all_of, table_of_has}
+use Rattle.lt_laws.proofs.FrontStands.{fronts_grow}
+use Rattle.lt_laws.proofs.StepLaws.{KeepsDoing, if_some, next_generation, unrefused}
 
 -- ---- the durable part under another catalogue
 

@@ -1,18 +1,18 @@
 -- Clips of lists of row versions by ranges of keys, and maps that keep the versions' names.
-use Rattle.std.proofs.Common.{◌≡◌, ℕ, refl, List, [], ◌∷◌, ◌++◌, true, false, sym, inl, inr, ap, subst, ◌∙◌, Ordering, Less, Equal, Greater}
-use Rattle.std.specs.Prelude.{Bool, ◌&&◌, ◌||◌, ◌==◌, IsTrue, None, Option, Some, cond, filter, map, nat_lt, not}
+use Rattle.std.proofs.Common.{List, [], ap, false, inl, inr, refl, subst, sym, true, ℕ, ◌++◌, ◌∙◌, ◌∷◌, ◌≡◌}
+use Rattle.std.specs.Prelude.{Bool, IsTrue, None, Option, Some, cond, filter, map, nat_lt, not, ◌&&◌, ◌==◌, ◌||◌}
+use Rattle.std.proofs.lemmas.Bool.{and_parts, false≢true, or_cases}
 use Rattle.std.specs.List.{AllByRecursion}
 use Rattle.std.specs.Ordering.{is_lt, ordering_reverse}
-use Rattle.std.proofs.lemmas.Bool.{and_parts, or_cases, false≢true}
 use Rattle.std.proofs.lemmas.Cmp.{nat_list_cmp_total}
-use Rattle.std.proofs.lemmas.Map.Lookups.{exact_bytes}
-use Rattle.lt_model.specs.Key.{Range, below, bytes_cmp, common, in_range, is_below_high, is_empty_range, is_high_within, lesser_high, same_key}
-use Rattle.lt_model.specs.declared.Op.TheVariants as ops
-use Rattle.lt_model.specs.Layout.{Leaf}
 use Rattle.std.specs.Option.{option_map_or}
-use Rattle.lt_model.specs.Claims.{abuts}
-use Rattle.lt_model.specs.Version.{RowVersion, clip, coerce_all, coerced, is_ordered, merge, put_version, put_versions, same_name, stands_before}
-use Rattle.lt_laws.proofs.MergeLaws.{Above, less, ordered-above, ordered-tail, same-key}
+use Rattle.lt_terms.specs.Key.{Range, below, common, in_range, is_below_high, is_empty_range, is_high_within, same_key}
+use Rattle.lt_terms.specs.Layout.{Leaf}
+use Rattle.lt_tables.specs.Version.{RowVersion, clip, coerce_all, coerced, is_ordered, merge, put_version, put_versions, same_name, stands_before}
+use Rattle.lt_machine.specs.Claims.{abuts}
+use Rattle.lt_lemmas.proofs.ClipLaws.{and-swap, below-upto, in-common, key-less, key-trans}
+use Rattle.lt_lemmas.proofs.MergeLaws.{Above, ordered-above, ordered-tail, same-key}
+use Rattle.lt_terms.specs.declared.Op.TheVariants as ops
 
 -- ---- clips of clips
 
@@ -26,12 +26,6 @@ filter-twice : (p q : RowVersion → Bool) (vs : List RowVersion) → filter p (
 filter-twice p q [] = refl
 filter-twice p q (v ∷ vs) = filter-twice-by v p (filter q vs) (filter (λ v. p v && q v) vs) (p v) (q v) refl (filter-twice p q vs)
 
-and-swap : (a b : Bool) → (a && b) ≡ (b && a)
-and-swap true true = refl
-and-swap true false = refl
-and-swap false true = refl
-and-swap false false = refl
-
 filter-as : (p q : RowVersion → Bool) (vs : List RowVersion) → ((v : RowVersion) → p v ≡ q v) → filter p vs ≡ filter q vs
 filter-as p q [] e = refl
 filter-as p q (v ∷ vs) e = ap (λ b. cond b (v ∷ filter p vs) (filter p vs)) (e v) ∙ ap (λ l. cond (q v) (v ∷ l) l) (filter-as p q vs e)
@@ -41,27 +35,12 @@ filter-swap p q vs = filter-twice p q vs ∙ filter-as (λ v. p v && q v) (λ v.
 
 -- ---- adjoining ranges
 
-pub key-less : (a b : List ℕ) → below a b ≡ true → bytes_cmp a b ≡ Less
-key-less a b h = less (bytes_cmp a b) h
-
-pub key-trans : (a b c : List ℕ) → below a b ≡ true → below b c ≡ true → below a c ≡ true
-key-trans a b c h i = ap is_lt (nat_list_cmp_total.trans a b c (key-less a b h) (key-less b c i))
-
 -- a key at or after a version's, below a bound
 pub before-below : (v w : RowVersion) (bound : List ℕ) → stands_before v w ≡ true → below w.key bound ≡ true → below v.key bound ≡ true
 before-below v w bound h i = elim (or_cases (below v.key w.key) (same_key v.key w.key && nat_lt w.ts v.ts) h) [
   | inl e ↦ key-trans v.key w.key bound e i
   | inr e ↦ ap (λ k. below k bound) (same-key v.key w.key (and_parts (same_key v.key w.key) (nat_lt w.ts v.ts) e).0) ∙ i
 ]
-
-upto-by : (a b c : List ℕ) (o : Ordering) → bytes_cmp a c ≡ o → below a b ≡ true → below c b ≡ false → is_lt o ≡ true
-upto-by a b c Less e h i = refl
-upto-by a b c Equal e h i = absurd (false≢true (sym i ∙ ap (λ k. below k b) (sym (exact_bytes a c e)) ∙ h))
-upto-by a b c Greater e h i = absurd (false≢true (sym i ∙ key-trans c a b (ap is_lt (nat_list_cmp_total.antisymm c a ∙ ap ordering_reverse e)) h))
-
--- what is below a bound is below each greater one
-pub below-upto : (a b c : List ℕ) → below a b ≡ true → below c b ≡ false → below a c ≡ true
-below-upto a b c h i = upto-by a b c (bytes_cmp a c) refl h i
 
 not-true : (b : Bool) → IsTrue (not b) → b ≡ false
 not-true true h = cc
@@ -74,49 +53,6 @@ within-high key mid (Some b) h i = below-upto key mid b i (not-true (below b mid
 past-low-by : (key low mid : List ℕ) (b : Bool) → below key low ≡ b → IsTrue (not (below mid low)) → below key mid ≡ false → b ≡ false
 past-low-by key low mid true e h i = absurd (false≢true (sym i ∙ below-upto key low mid e (not-true (below mid low) h)))
 past-low-by key low mid false e h i = refl
-
-or-more : (x y : Bool) → (x ≡ true → y ≡ true) → y ≡ (x || y)
-or-more true y h = h refl
-or-more false y h = refl
-
-or-less : (x y : Bool) → (y ≡ true → x ≡ true) → x ≡ (x || y)
-or-less true y h = refl
-or-less false true h = h refl
-or-less false false h = refl
-
-and-more : (x y : Bool) → (x ≡ true → y ≡ true) → x ≡ (x && y)
-and-more true y h = sym (h refl)
-and-more false y h = refl
-
-and-less : (x y : Bool) → (y ≡ true → x ≡ true) → y ≡ (x && y)
-and-less true y h = refl
-and-less false true h = sym (h refl)
-and-less false false h = refl
-
-greater-low-by : (k a b : List ℕ) (c : Bool) → below a b ≡ c → below k (cond c b a) ≡ (below k a || below k b)
-greater-low-by k a b true e = or-more (below k a) (below k b) (λ h. key-trans k a b h e)
-greater-low-by k a b false e = or-less (below k a) (below k b) (λ h. below-upto k b a h e)
-
-lesser-high-by : (k a b : List ℕ) (c : Bool) → below a b ≡ c → below k (cond c a b) ≡ (below k a && below k b)
-lesser-high-by k a b true e = and-more (below k a) (below k b) (λ h. key-trans k a b h e)
-lesser-high-by k a b false e = and-less (below k a) (below k b) (λ h. below-upto k b a h e)
-
-lesser-high : (k : List ℕ) (a b : Option (List ℕ)) → is_below_high k (lesser_high a b) ≡ (is_below_high k a && is_below_high k b)
-lesser-high k None b = refl
-lesser-high k (Some a) None = and-swap true (below k a)
-lesser-high k (Some a) (Some b) = lesser-high-by k a b (below a b) refl
-
-four : (x y c d : Bool) → (not (x || y) && (c && d)) ≡ ((not x && c) && (not y && d))
-four true y c d = refl
-four false true true d = refl
-four false true false d = refl
-four false false c d = refl
-
--- a key is in what two ranges have in common where it is in both
-pub in-common : (k : List ℕ) (r s : Range) → in_range k (common r s) ≡ (in_range k r && in_range k s)
-in-common k r s = ap (λ b. not b && is_below_high k (lesser_high r.high s.high)) (greater-low-by k r.low s.low (below r.low s.low) refl)
-    ∙ ap (λ b. not (below k r.low || below k s.low) && b) (lesser-high k r.high s.high)
-    ∙ four (below k r.low) (below k s.low) (is_below_high k r.high) (is_below_high k s.high)
 
 pub clip-clip : (r s : Range) (vs : List RowVersion) → clip r (clip s vs) ≡ clip (common r s) vs
 clip-clip r s vs = filter-twice (λ v. in_range v.key r) (λ v. in_range v.key s) vs ∙ sym (filter-as (λ v. in_range v.key (common r s)) (λ v. in_range v.key r && in_range v.key s) vs (λ v. in-common v.key r s))

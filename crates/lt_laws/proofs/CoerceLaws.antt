@@ -1,26 +1,28 @@
 -- Cells from one layout to another: by way of wide enough carriers they are as at once, and what they make of rows goes along.
 use Rattle.std.proofs.Common.{Bool, List, [], ap, ap₂, arith, cond, eq-eqb, eqb-true, false, length, refl, subst, suc, sym, true, ℕ, ◌∙◌, ◌∷◌, ◌≡◌, ◌≤◌}
-use Rattle.std.specs.Prelude.{Contains, IsTrue, None, Option, Some, find, if◌then◌else◌, map, not, option_map, ⊤, ◌&&◌, ◌==◌, ◌||◌}
-use Rattle.std.specs.List.{AllByRecursion}
-use Rattle.std.specs.Option.{option_map_or}
-use Rattle.std.specs.Str.{is_utf8}
 use Rattle.std.proofs.lemmas.Bool.{and_from, and_parts, false≢true}
-use Rattle.lt_model.specs.declared.Rank.{Rank}
-use Rattle.lt_model.specs.Value.{Value, bool_value, bytes_value, fits_32, int_value, null_value, struct_value, text_value}
-use Rattle.lt_model.specs.Kind.{Kind, has_shape, plain, rank_number}
-use Rattle.lt_model.specs.Conversion.{at_rank}
-use Rattle.lt_model.specs.Layout.{Cell, Leaf, bool_cell, bytes_cell, cell_of, cell_to, coerce, int_cell, is_unset, lacking, layout_of, null_cell, same_leaf, same_path, sets, suits, unset, value_of, with_cells}
-use Rattle.lt_model.specs.Version.{RowVersion, coerce_all, effect_by, effect_of, overlay}
-use Rattle.lt_model.specs.declared.Op.{Op}
-use Rattle.lt_model.specs.declared.Op.TheVariants as ops
+use Rattle.std.specs.Prelude.{Contains, IsTrue, None, Option, Some, find, if◌then◌else◌, map, not, option_map, ⊤, ◌&&◌, ◌==◌, ◌||◌}
+use Rattle.std.specs.Str.{is_utf8}
+use Rattle.std.specs.Option.{option_map_or}
+use Rattle.std.specs.List.{AllByRecursion}
+use Rattle.lt_terms.specs.Value.{Value, bool_value, bytes_value, fits_32, int_value, null_value, struct_value, text_value}
+use Rattle.lt_terms.specs.Layout.{Cell, Leaf, bool_cell, bytes_cell, cell_of, cell_to, coerce, int_cell, is_unset, lacking, layout_of, null_cell, same_leaf, same_path, sets, suits, unset, value_of, with_cells}
+use Rattle.lt_terms.specs.declared.Rank.{Rank}
+use Rattle.lt_terms.specs.Conversion.{at_rank}
+use Rattle.lt_terms.specs.Kind.{Kind, has_shape, plain, rank_number}
+use Rattle.lt_terms.specs.declared.Op.{Op}
+use Rattle.lt_tables.specs.Version.{RowVersion, coerce_all, effect_by, effect_of, overlay}
+use Rattle.lt_lemmas.proofs.ConversionLemmas.{at_rank-null, fits_wider}
+use Rattle.lt_lemmas.proofs.ListFacts.{find_held}
+use Rattle.lt_lemmas.proofs.SoundLaws.{not-true}
+use Rattle.lt_laws.proofs.ConversionLemmas.{bit_fits, bytes_shape, int_shape, step_bool, text_shape, through_rank}
 use Rattle.lt_laws.proofs.CarrierLaws.{prim_up, shape_within}
-use Rattle.lt_laws.proofs.ConversionLemmas.{at_rank-null, fits_wider, bit_fits, bytes_shape, int_shape, step_bool, text_shape, through_rank}
 use Rattle.lt_laws.proofs.FlattenLemmas.{cell_back}
 use Rattle.lt_laws.proofs.LeafLaws.{AreColumns, Mark, found_leaf, leaf_at, leaf_found, leaf_in, leaf_in_layout, leaf_is}
-use Rattle.lt_laws.proofs.ListFacts.{any_held, find_held, from_map, in_map}
 use Rattle.lt_laws.proofs.ScanLaws.{any_of}
-use Rattle.lt_laws.proofs.SoundLaws.{not-true}
-use Rattle.lt_model.specs.declared.Rank.TheVariants as rank
+use Rattle.lt_laws.proofs.ListFacts.{any_held, from_map, in_map}
+use Rattle.lt_terms.specs.declared.Rank.TheVariants as rank
+use Rattle.lt_terms.specs.declared.Op.TheVariants as ops
 
 -- ---- one cell
 

@@ -3,25 +3,24 @@ use Rattle.std.proofs.Common.{Bool, List, [], ap, ap₂, arith, cond, false, len
 use Rattle.std.specs.Prelude.{Contains, IsTrue, filter, map, nat_le, nat_lt, not, ◌&&◌, ◌==◌, ◌||◌}
 use Rattle.std.specs.List.{AllByRecursion, list_all}
 use Rattle.std.proofs.lemmas.Bool.{and_from, and_parts}
-use Rattle.lt_model.specs.declared.Op.{Op}
-use Rattle.lt_model.specs.Value.{is_timestamp}
-use Rattle.lt_model.specs.Kind.{Kind}
-use Rattle.lt_model.specs.Key.{max_key, same_key}
-use Rattle.lt_model.specs.Layout.{Cell, Leaf, are_lawful, coerce, is_unset, layout_of, sets, with_cells}
-use Rattle.lt_model.specs.Version.{RowVersion, asof, coerce_all, coerced, collapse, compose, is_delete, is_insert, is_ordered, is_version, onto, overlay, rolled_up, stands_before}
-use Rattle.lt_laws.proofs.CoerceLaws.{AreLong, IsServed, cell_for, coerce_overlay, over, overlay_length, overlay_maps}
-use Rattle.lt_laws.proofs.LaidLaws.{goes_laid, over_laid, unset_as}
-use Rattle.lt_laws.proofs.LeafLaws.{AreColumns, IsMarked}
-use Rattle.lt_laws.proofs.ListFacts.{all_filter}
-use Rattle.lt_laws.proofs.MergeLaws.{Above, ordered-above, ordered-tail}
-use Rattle.lt_laws.proofs.MomentLaws.{later, rolled-above}
-use Rattle.lt_laws.proofs.ReadLaws.{or_left}
-use Rattle.lt_laws.proofs.ScanLemmas.{from-filter, in-filter}
+use Rattle.lt_terms.specs.Value.{is_timestamp}
+use Rattle.lt_terms.specs.Key.{max_key, same_key}
+use Rattle.lt_terms.specs.Layout.{Cell, Leaf, are_lawful, coerce, is_unset, layout_of, sets, with_cells}
+use Rattle.lt_terms.specs.Kind.{Kind}
+use Rattle.lt_terms.specs.declared.Op.{Op}
+use Rattle.lt_tables.specs.Version.{RowVersion, asof, coerce_all, coerced, collapse, compose, is_delete, is_insert, is_ordered, is_version, onto, overlay, rolled_up, stands_before}
+use Rattle.lt_lemmas.proofs.TakenLaws.{left, right}
+use Rattle.lt_lemmas.proofs.ListFacts.{all_filter}
+use Rattle.lt_lemmas.proofs.MergeLaws.{Above, ordered-above, ordered-tail}
 use Rattle.lt_laws.proofs.SeenLaws.{AreLaid, coerce_own, laid_lawful}
-use Rattle.lt_laws.proofs.TakenLaws.{left, right}
+use Rattle.lt_laws.proofs.LeafLaws.{AreColumns, IsMarked}
+use Rattle.lt_laws.proofs.CoerceLaws.{AreLong, IsServed, cell_for, coerce_overlay, over, overlay_length, overlay_maps, suits_rank}
+use Rattle.lt_laws.proofs.LaidLaws.{goes_laid, over_laid, unset_as}
 use Rattle.lt_laws.proofs.WidenedStore.{lawful_fit}
-use Rattle.lt_laws.proofs.CoerceLaws.{suits_rank}
-use Rattle.lt_model.specs.declared.Op.TheVariants as ops
+use Rattle.lt_laws.proofs.MomentLaws.{later, rolled-above}
+use Rattle.lt_laws.proofs.ScanLemmas.{from-filter, in-filter}
+use Rattle.lt_laws.proofs.ReadLaws.{or_left}
+use Rattle.lt_terms.specs.declared.Op.TheVariants as ops
 
 -- ---- versions with cells that lie lawfully under a layout
 

@@ -1,32 +1,33 @@
 -- A compaction keeps a good session, at once or as a job.
-use Rattle.std.proofs.Common.{Bool, List, [], ap, arith, cond, eqb-true, false, inl, inr, length, ltb-true, refl, subst, suc, sym, true, zero, ℕ, ◌+◌, ◌-◌, ◌<◌, ◌∙◌, ◌∷◌, ◌≡◌, ◌≤◌}
 use Rattle.std.specs.Prelude.{Contains, IfSome, IsTrue, None, Option, Some, is_some, nat_le, nat_lt, option_and_then, option_map, slice_get, ◌&&◌, ◌==◌, ◌^◌, ◌⊎◌}
 use Rattle.std.specs.List.{AllByRecursion}
-use Rattle.std.specs.Option.{option_map_or}
+use Rattle.std.proofs.Common.{Bool, List, [], ap, arith, cond, eqb-true, false, inl, inr, leb-false, length, ltb-false, ltb-true, refl, subst, suc, sym, true, zero, ℕ, ◌+◌, ◌-◌, ◌<◌, ◌∙◌, ◌∷◌, ◌≡◌, ◌≤◌}
 use Rattle.std.proofs.lemmas.Bool.{and_from, and_parts, eqb-false, false≢true, or_parts}
-use Rattle.std.proofs.Common.{leb-false, ltb-false}
-use Rattle.lt_model.specs.Key.{Range, common, lies_in, ranges_from}
-use Rattle.lt_model.specs.Schema.{Catalogue, when}
-use Rattle.lt_model.specs.Log.{Change, Header, Item}
-use Rattle.lt_model.specs.Fair.{Feed}
-use Rattle.lt_model.specs.Store.{Delta, Durable, delta_with, IsLawfulPart, Part, part_ranges}
-use Rattle.lt_model.specs.Machine.{Job, State, cat_of, committed, compacted, frees_nothing, is_worn, job_output, output_id, parts_replaced, ranges_of, replaced, unknown_in}
-use Rattle.lt_model.specs.Reply.{job_open, no_such_delta, too_many_deltas, worn}
-use Rattle.lt_model.specs.Script.{Mode, do_compact, do_job_finish}
-use Rattle.lt_model.specs.Sound.{IsGood, JobBegan, JobStands, ListsAll, PendingOf, PendingOfAll, SoundPart, SoundParts, passed}
-use Rattle.lt_laws.proofs.AddedSession.{ids_known, known_each}
-use Rattle.lt_laws.proofs.CompactedParts.{InJob, changed_is, compact_of, compacted_by, compacted_is, inputs_of_job, output_delta, part_beside, part_compacted, pending_beside, pending_compacted}
-use Rattle.lt_laws.proofs.CompactedShelf.{HasRoom, IsId, lawful_compacted, lows_replaced}
-use Rattle.lt_laws.proofs.DurableFacts.{IsKnown, shelf_below}
-use Rattle.lt_laws.proofs.JobLaws.{HasLow, all_have_low, both_each, job_begun_stands, part_job_is}
-use Rattle.lt_laws.proofs.JobOutput.{OutputIn, output_holds}
-use Rattle.lt_laws.proofs.ListFacts.{all_at, all_map, find_held, none_mapped}
-use Rattle.lt_laws.proofs.PointLaws.{when_none}
+use Rattle.std.specs.Option.{option_map_or}
+use Rattle.lt_terms.specs.Key.{Range, common, lies_in, ranges_from}
+use Rattle.lt_terms.specs.Log.{Change, Header, Item}
+use Rattle.lt_world.specs.Feed.{Feed}
+use Rattle.lt_tables.specs.Pump.{Part}
+use Rattle.lt_tables.specs.Schema.{Catalogue, when}
+use Rattle.lt_tables.specs.Query.{Mode, do_compact, do_job_finish}
+use Rattle.lt_words.specs.Reply.{job_open, no_such_delta, too_many_deltas, worn}
+use Rattle.lt_storage.specs.Store.{Delta, Durable, IsLawfulPart, delta_with, part_ranges}
+use Rattle.lt_machine.specs.Machine.{Job, State, cat_of, committed, compacted, frees_nothing, is_worn, job_output, output_id, parts_replaced, ranges_of, replaced, unknown_in}
+use Rattle.lt_machine.specs.Sound.{IsGood, JobBegan, JobStands, ListsAll, PendingOf, PendingOfAll, SoundPart, SoundParts, passed}
+use Rattle.lt_codecs.proofs.ListFacts.{all_map, none_mapped}
+use Rattle.lt_lemmas.proofs.ClipLaws.{in-common}
+use Rattle.lt_lemmas.proofs.SoundLaws.{meets-by}
+use Rattle.lt_lemmas.proofs.RangeLaws.{tile_rises}
+use Rattle.lt_lemmas.proofs.ListFacts.{find_held, when_none}
 use Rattle.lt_laws.proofs.SplitLaws.{Each, RestsIn, StandsAt, each_pair, each_sound, in_lies, lows_of, rests_within, sound_each, zipped_each}
-use Rattle.lt_laws.proofs.ClipLaws.{in-common}
-use Rattle.lt_laws.proofs.RangeLaws.{tile_rises}
+use Rattle.lt_laws.proofs.JobLaws.{HasLow, all_have_low, both_each, job_begun_stands, part_job_is}
+use Rattle.lt_laws.proofs.DurableFacts.{IsKnown, shelf_below}
+use Rattle.lt_laws.proofs.CompactedShelf.{HasRoom, IsId, lawful_compacted, lows_replaced}
+use Rattle.lt_laws.proofs.CompactedParts.{InJob, changed_is, compact_of, compacted_by, compacted_is, inputs_of_job, output_delta, part_beside, part_compacted, pending_beside, pending_compacted}
+use Rattle.lt_laws.proofs.JobOutput.{OutputIn, output_holds}
+use Rattle.lt_laws.proofs.AddedSession.{ids_known, known_each}
 use Rattle.lt_laws.proofs.ScanLaws.{tiles_of}
-use Rattle.lt_laws.proofs.SoundLaws.{meets-by}
+use Rattle.lt_laws.proofs.ListFacts.{all_at}
 use Rattle.lt_laws.proofs.StepLaws.{KeepsDoing, all_pending_as, next_generation, unrefused}
 
 -- ---- each partition, replaced or not

@@ -1,28 +1,32 @@
 -- A partition whose inputs gave way to a compaction's output: what it has stored, and that it stays sound.
-use Rattle.std.proofs.Common.{Bool, List, [], ap, ap₂, append-nil, arith, cond, eqb-true, false, inl, inr, refl, subst, sym, true, zero, ℕ, ◌+◌, ◌++◌, ◌<◌, ◌∙◌, ◌∷◌, ◌≡◌, ◌≤◌}
+use Rattle.std.proofs.Common.{Bool, List, [], ap, append-nil, ap₂, arith, cond, eqb-true, false, inl, inr, refl, subst, sym, true, zero, ℕ, ◌++◌, ◌+◌, ◌<◌, ◌∙◌, ◌∷◌, ◌≡◌, ◌≤◌}
 use Rattle.std.specs.Prelude.{Contains, IsTrue, None, Option, Some, filter, find, is_some, map, not, option_map, ◌==◌, ◌⊎◌}
-use Rattle.std.specs.List.{AllByRecursion, cons_option, list_any}
 use Rattle.std.proofs.lemmas.Bool.{false≢true}
+use Rattle.std.specs.List.{AllByRecursion, cons_option, list_any}
 use Rattle.std.proofs.lemmas.List.{map-append}
-use Rattle.lt_model.specs.Key.{Range, in_range, lies_in, same_key}
-use Rattle.lt_model.specs.Log.{Change, Header, Item}
-use Rattle.lt_model.specs.Version.{RowVersion, clip, collapse, effect_of, is_ordered, merge, put_versions, same_name, seen}
-use Rattle.lt_model.specs.Store.{Delta, Durable, Part, carried_versions, delta_with, deltas_of, stored}
-use Rattle.lt_model.specs.Machine.{Job, delta_of, is_listed, job_output, on_shelf, parts_replaced, ranges_of, replaced, with_delta}
-use Rattle.lt_model.specs.Sound.{ListsAll, PendingOf, SoundPart, up_to_ts}
+use Rattle.lt_terms.specs.Key.{Range, in_range, lies_in, same_key}
+use Rattle.lt_terms.specs.Log.{Change, Header, Item}
+use Rattle.lt_tables.specs.Version.{RowVersion, clip, collapse, effect_of, is_ordered, merge, put_versions, same_name, seen}
+use Rattle.lt_tables.specs.Pump.{Part}
+use Rattle.lt_storage.specs.Store.{Delta, Durable, carried_versions, delta_with, deltas_of, stored}
+use Rattle.lt_machine.specs.Sound.{ListsAll, PendingOf, SoundPart, up_to_ts}
+use Rattle.lt_machine.specs.Machine.{Job, delta_of, is_listed, job_output, on_shelf, parts_replaced, ranges_of, replaced, with_delta}
+use Rattle.lt_codecs.proofs.ListFacts.{all_map}
+use Rattle.lt_lemmas.proofs.ListFacts.{all_filter, all_from, filter_map-append}
+use Rattle.lt_lemmas.proofs.MergeLaws.{clip-ordered, named}
+use Rattle.lt_lemmas.proofs.SoundLaws.{not-true, pick}
 use Rattle.lt_laws.proofs.CollapseLaws.{collapse_from, collapse_in}
+use Rattle.lt_laws.proofs.JobOutput.{OutputIn, merged_from_delta, merged_member, merged_of, settled, settled_ordered}
+use Rattle.lt_laws.proofs.ListLaws.{asof-effect}
+use Rattle.lt_laws.proofs.MomentLaws.{asof-collapse, collapse-clip, collapse-newer, collapse-ordered}
+use Rattle.lt_laws.proofs.JobLaws.{any_from, lists_id}
+use Rattle.lt_laws.proofs.ScanLaws.{any_of}
 use Rattle.lt_laws.proofs.DeltaAdded.{Rest, is_same_name, listed_stored, merge_has, same_names}
 use Rattle.lt_laws.proofs.DurableFacts.{IsKnown}
-use Rattle.lt_laws.proofs.JobLaws.{any_from, lists_id}
-use Rattle.lt_laws.proofs.JobOutput.{OutputIn, merged_from_delta, merged_member, merged_of, settled, settled_ordered}
-use Rattle.lt_laws.proofs.ListFacts.{all_at, all_filter, all_from, all_map, any_held, filter_map-append, from_filter_map, from_map, held_either, held_one, in_filter_map, in_map}
-use Rattle.lt_laws.proofs.ListLaws.{asof-effect}
-use Rattle.lt_laws.proofs.MergeLaws.{clip-merge, clip-ordered, merge-alone, merge-ordered, merge-within, named}
-use Rattle.lt_laws.proofs.MomentLaws.{asof-collapse, collapse-clip, collapse-newer, collapse-ordered}
-use Rattle.lt_laws.proofs.ScanLaws.{any_of}
-use Rattle.lt_laws.proofs.ScanLemmas.{from-filter, held-found, in-filter, same-held, seen-ts}
 use Rattle.lt_laws.proofs.ShelfGrowth.{merged_from, merged_new, merged_old, named_stay, new_named}
-use Rattle.lt_laws.proofs.SoundLaws.{not-true, pick}
+use Rattle.lt_laws.proofs.ListFacts.{all_at, any_held, from_filter_map, from_map, held_either, held_one, in_filter_map, in_map}
+use Rattle.lt_laws.proofs.ScanLemmas.{from-filter, held-found, in-filter, same-held, seen-ts}
+use Rattle.lt_laws.proofs.MergeLaws.{clip-merge, merge-alone, merge-ordered, merge-within}
 use Rattle.lt_laws.proofs.SplitLaws.{in_lies}
 
 -- ---- settled lists

@@ -1,29 +1,33 @@
 -- The durable part that a compaction leaves is lawful: its shelf has what its partitions list, and no more deltas than it may.
-use Rattle.std.proofs.Common.{Bool, List, [], ap, ap₂, append-nil, arith, cond, eq-eqb, eqb-true, false, inl, inr, le-leb, leb-true, length, lt-ltb, ltb-false, ltb-true, ne_eqb, refl, subst, suc, sym, true, zero, ℕ, ◌+◌, ◌++◌, ◌<◌, ◌∙◌, ◌∷◌, ◌≡◌, ◌≤◌}
+use Rattle.std.proofs.Common.{Bool, List, [], ap, append-nil, ap₂, arith, cond, eq-eqb, eqb-true, false, inl, inr, le-leb, leb-true, length, lt-ltb, ltb-false, ltb-true, ne_eqb, refl, subst, suc, sym, true, zero, ℕ, ◌++◌, ◌+◌, ◌<◌, ◌∙◌, ◌∷◌, ◌≡◌, ◌≤◌}
 use Rattle.std.specs.Prelude.{Contains, IsTrue, None, Option, Some, filter, is_some, map, nat_le, nat_lt, not, zip, ◌&&◌, ◌==◌, ◌^◌, ◌||◌, ◌⊎◌}
 use Rattle.std.specs.List.{AllByRecursion, list_all, list_any}
 use Rattle.std.proofs.lemmas.Bool.{and_from, and_parts, false≢true, or_parts}
 use Rattle.std.proofs.lemmas.List.{length-append, map-append}
-use Rattle.lt_model.specs.Value.{rises_above, rises_strictly}
-use Rattle.lt_model.specs.Key.{Range, lies_in, tile}
-use Rattle.lt_model.specs.Schema.{Catalogue}
-use Rattle.lt_model.specs.Store.{AreLawfulTables, Delta, Durable, IsLawfulPart, Part, bare_manifest, delta_with, fits_63, is_delta_entry, is_part_entry, merged_in}
-use Rattle.lt_model.specs.Machine.{Job, frees_nothing, is_listed, job_output, kept_outside, not_empty, parts_replaced, ranges_of, replaced, table_numbers}
-use Rattle.lt_model.specs.Version.{RowVersion, collapse, merge}
-use Rattle.lt_laws.proofs.AddedSession.{PartEntry, entry_made, entry_parts, found_any, ids_of, mapped_tests, named_length, rises_push}
+use Rattle.lt_terms.specs.Value.{rises_above, rises_strictly}
+use Rattle.lt_terms.specs.Key.{Range, lies_in, tile}
+use Rattle.lt_tables.specs.Pump.{Part}
+use Rattle.lt_tables.specs.Version.{RowVersion, collapse, merge}
+use Rattle.lt_tables.specs.Schema.{Catalogue}
+use Rattle.lt_storage.specs.Store.{AreLawfulTables, Delta, Durable, IsLawfulPart, bare_manifest, delta_with, fits_63, is_delta_entry, is_part_entry, merged_in}
+use Rattle.lt_machine.specs.Machine.{Job, frees_nothing, is_listed, job_output, kept_outside, not_empty, parts_replaced, ranges_of, replaced, table_numbers}
+use Rattle.lt_codecs.proofs.ListFacts.{all_append, all_map}
+use Rattle.lt_lemmas.proofs.ListFacts.{all_filter, all_from, find_held}
+use Rattle.lt_lemmas.proofs.SoundLaws.{not-true}
+use Rattle.lt_lemmas.proofs.TakenLaws.{any_append}
 use Rattle.lt_laws.proofs.CompactedParts.{compact_of, is_other, new_ones, next_after, others, output_delta, shelf_keeps}
 use Rattle.lt_laws.proofs.DurableFacts.{IsKnown, listed_known, map_tests, mapped_any, named_at, part_entries, shelf_below}
-use Rattle.lt_laws.proofs.HeldLaws.{rises_tail}
-use Rattle.lt_laws.proofs.JobLaws.{any_from, as_many, lists_id}
-use Rattle.lt_laws.proofs.JobOutput.{settled}
-use Rattle.lt_laws.proofs.ListFacts.{all_append, all_at, all_filter, all_from, all_map, contains_front, find_held}
-use Rattle.lt_laws.proofs.NewDelta.{tests_hold}
-use Rattle.lt_laws.proofs.PointsAfter.{filter_short, strictly_kept}
-use Rattle.lt_laws.proofs.ScanLaws.{any_of}
 use Rattle.lt_laws.proofs.ShelfGrowth.{known_stays, new_named}
-use Rattle.lt_laws.proofs.SoundLaws.{filter-all, not-true}
+use Rattle.lt_laws.proofs.AddedSession.{PartEntry, entry_made, entry_parts, found_any, ids_of, mapped_tests, named_length, rises_push}
+use Rattle.lt_laws.proofs.PointsAfter.{filter_short, strictly_kept}
 use Rattle.lt_laws.proofs.SplitLaws.{lows_of}
-use Rattle.lt_laws.proofs.TakenLaws.{any_append}
+use Rattle.lt_laws.proofs.JobLaws.{any_from, as_many, lists_id}
+use Rattle.lt_laws.proofs.ScanLaws.{any_of}
+use Rattle.lt_laws.proofs.ListFacts.{all_at, contains_front}
+use Rattle.lt_laws.proofs.NewDelta.{tests_hold}
+use Rattle.lt_laws.proofs.HeldLaws.{rises_tail}
+use Rattle.lt_laws.proofs.JobOutput.{settled}
+use Rattle.lt_laws.proofs.SoundLaws.{filter-all}
 
 -- the id of the output, or none where the output is empty
 abbrev pub IsId : Durable → Job → Option ℕ → Type 0

@@ -1,15 +1,15 @@
 -- How a list is parted into bundles: none is empty, and no two share a key.
-use Rattle.std.proofs.Common.{Bool, List, [], ap, arith, cond, false, length, lt-ltb, refl, subst, sym, true, ℕ, ◌+◌, ◌++◌, ◌<◌, ◌∙◌, ◌∷◌, ◌≡◌}
+use Rattle.std.proofs.Common.{Bool, List, [], ap, arith, cond, false, length, lt-ltb, refl, subst, sym, true, ℕ, ◌++◌, ◌+◌, ◌<◌, ◌∙◌, ◌∷◌, ◌≡◌}
 use Rattle.std.specs.Prelude.{IsTrue, flat_map, map, nat_le, nat_lt, ⊤, ◌&&◌, ◌==◌, ◌||◌}
-use Rattle.std.specs.List.{list_all}
+use Rattle.std.proofs.lemmas.List.Sums.{fold-append}
 use Rattle.std.proofs.lemmas.Bool.{and_from, and_parts}
 use Rattle.std.proofs.lemmas.List.{length-append}
-use Rattle.std.proofs.lemmas.List.Sums.{fold-append}
-use Rattle.lt_model.specs.Key.{below, same_key}
-use Rattle.lt_model.specs.Layout.{Leaf}
-use Rattle.lt_model.specs.Version.{RowVersion, is_ordered, stands_before}
-use Rattle.lt_model.specs.Bundle.{bundle_bytes, cut, cut_groups, full_size, grouped, with_group}
-use Rattle.lt_model.specs.Store.{bare_entry, entries_rise, first_key, last_key}
+use Rattle.std.specs.List.{list_all}
+use Rattle.lt_terms.specs.Key.{below, same_key}
+use Rattle.lt_terms.specs.Layout.{Leaf}
+use Rattle.lt_tables.specs.Version.{RowVersion, is_ordered, stands_before}
+use Rattle.lt_storage.specs.Store.{bare_entry, entries_rise, first_key, last_key}
+use Rattle.lt_storage.specs.Bundle.{bundle_bytes, cut, cut_groups, full_size, grouped, with_group}
 use Rattle.lt_laws.proofs.ListLaws.{cut-whole}
 
 -- ---- lists of lists whose keys rise from each to the next

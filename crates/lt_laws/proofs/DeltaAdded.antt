@@ -1,30 +1,34 @@
 -- A partition lists one delta more, which holds the changes that were pending there: the session stays good.
-use Rattle.std.proofs.Common.{Bool, List, [], ap, arith, eq-eqb, eqb-true, inl, inr, leb-true, refl, subst, suc, sym, true, zero, ℕ, ◌+◌, ◌++◌, ◌<◌, ◌∙◌, ◌∷◌, ◌≡◌, ◌≤◌}
+use Rattle.std.proofs.Common.{Bool, List, [], ap, arith, eq-eqb, eqb-true, inl, inr, leb-true, refl, subst, suc, sym, true, zero, ℕ, ◌++◌, ◌+◌, ◌<◌, ◌∙◌, ◌∷◌, ◌≡◌, ◌≤◌}
 use Rattle.std.specs.Prelude.{Contains, IsTrue, None, Option, Some, find, is_some, map, nat_le, ◌&&◌, ◌==◌, ◌⊎◌}
 use Rattle.std.specs.List.{AllByRecursion, cons_option, list_any}
 use Rattle.std.proofs.lemmas.Bool.{and_from, and_parts}
 use Rattle.std.proofs.lemmas.List.{map-append}
-use Rattle.lt_model.specs.Key.{Range, common, in_range, same_key}
-use Rattle.lt_model.specs.Schema.{Catalogue, IsCatalogue, change_at, first_of}
-use Rattle.lt_model.specs.Log.{Change, Header, Item, change_key}
-use Rattle.lt_model.specs.Row.{is_in_time}
-use Rattle.lt_model.specs.Version.{RowVersion, clip, effect_of, is_ordered, merge, same_name, seen}
-use Rattle.lt_model.specs.Store.{Delta, Durable, Part, carried_versions, delta_with, deltas_of, merged_in, stored}
-use Rattle.lt_model.specs.Machine.{Job, seen_pending, with_id}
-use Rattle.lt_model.specs.Sound.{ListsAll, PendingOf, SoundPart, source_of, up_to_ts}
+use Rattle.lt_terms.specs.Log.{Change, Header, Item, change_key}
+use Rattle.lt_terms.specs.Key.{Range, common, in_range, same_key}
+use Rattle.lt_tables.specs.Schema.{Catalogue, IsCatalogue, change_at, first_of}
+use Rattle.lt_tables.specs.Row.{is_in_time}
+use Rattle.lt_tables.specs.Version.{RowVersion, clip, effect_of, is_ordered, merge, same_name, seen}
+use Rattle.lt_tables.specs.Pump.{Part}
+use Rattle.lt_storage.specs.Store.{Delta, Durable, carried_versions, delta_with, deltas_of, merged_in, stored}
+use Rattle.lt_machine.specs.Machine.{Job, seen_pending, with_id}
+use Rattle.lt_machine.specs.Sound.{ListsAll, PendingOf, SoundPart, source_of, up_to_ts}
+use Rattle.lt_codecs.proofs.ListFacts.{all_append, all_map}
+use Rattle.lt_lemmas.proofs.PointLaws.{itself, same}
+use Rattle.lt_lemmas.proofs.PumpLaws.{Name}
+use Rattle.lt_lemmas.proofs.MergeLaws.{clip-ordered, filter-ordered, named, named-key, named-ts}
+use Rattle.lt_lemmas.proofs.TakenLaws.{any_append}
+use Rattle.lt_lemmas.proofs.ListFacts.{all_from}
 use Rattle.lt_laws.proofs.AnswerLaws.{IsSound}
-use Rattle.lt_laws.proofs.DurableFacts.{IsKnown}
 use Rattle.lt_laws.proofs.HeldLaws.{once}
-use Rattle.lt_laws.proofs.ListFacts.{all_append, all_from, all_map, from_map, held_either, held_is_found, held_one, in_map}
-use Rattle.lt_laws.proofs.MergeLaws.{clip-ordered, filter-ordered, merge-alone, merge-first, merge-ordered, named, named-itself, named-key, named-ts}
-use Rattle.lt_laws.proofs.PointLaws.{itself, same}
-use Rattle.lt_laws.proofs.PumpLaws.{Name}
-use Rattle.lt_laws.proofs.ReadLaws.{or_left}
-use Rattle.lt_laws.proofs.ScanLaws.{seen_from}
 use Rattle.lt_laws.proofs.ScanLemmas.{found-held, from-filter, in-filter, same-held, seen-key, seen-ts}
+use Rattle.lt_laws.proofs.ScanLaws.{seen_from}
+use Rattle.lt_laws.proofs.MergeLaws.{merge-alone, merge-first, merge-ordered, named-itself}
 use Rattle.lt_laws.proofs.ShelfGrowth.{merged_from, merged_new, merged_old, named_stay, new_named, pending_ordered, with_new}
+use Rattle.lt_laws.proofs.ListFacts.{from_map, held_either, held_is_found, held_one, in_map}
+use Rattle.lt_laws.proofs.DurableFacts.{IsKnown}
 use Rattle.lt_laws.proofs.SplitLaws.{RestsIn, StandsAt}
-use Rattle.lt_laws.proofs.TakenLaws.{any_append}
+use Rattle.lt_laws.proofs.ReadLaws.{or_left}
 
 -- ---- what a source is
 

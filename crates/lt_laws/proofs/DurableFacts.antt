@@ -1,14 +1,16 @@
 -- What a lawful durable part says of its ids: each that a partition lists stands on the shelf, and all are below the next one.
-use Rattle.std.proofs.Common.{Bool, List, [], arith, cond, eqb-true, false, ltb-true, refl, subst, sym, suc, true, zero, ℕ, ◌<◌, ◌∙◌, ◌∷◌, ◌≡◌}
+use Rattle.std.proofs.Common.{Bool, List, [], arith, cond, eqb-true, false, ltb-true, refl, subst, suc, sym, true, zero, ℕ, ◌<◌, ◌∙◌, ◌∷◌, ◌≡◌}
 use Rattle.std.specs.Prelude.{Contains, IsTrue, Option, Some, find, is_some, length, map, nat_le, nat_lt, slice_get, ◌&&◌, ◌==◌, ◌^◌, ◌||◌}
 use Rattle.std.specs.List.{AllByRecursion, list_all, list_any}
 use Rattle.std.proofs.lemmas.Bool.{and_parts, false≢true}
-use Rattle.lt_model.specs.declared.Extent.{Extent}
-use Rattle.lt_model.specs.Value.{rises_strictly}
-use Rattle.lt_model.specs.Key.{max_key, tile}
-use Rattle.lt_model.specs.Store.{Delta, Durable, IsLawfulPart, Part, bare_manifest, delta_with, fits_63, is_delta_entry, is_part_entry}
-use Rattle.lt_model.specs.Sound.{ListsAll}
-use Rattle.lt_laws.proofs.ListFacts.{all_at, all_map, any_held, any_mapped}
+use Rattle.lt_terms.specs.declared.Extent.{Extent}
+use Rattle.lt_terms.specs.Value.{rises_strictly}
+use Rattle.lt_terms.specs.Key.{max_key, tile}
+use Rattle.lt_tables.specs.Pump.{Part}
+use Rattle.lt_storage.specs.Store.{Delta, Durable, IsLawfulPart, bare_manifest, delta_with, fits_63, is_delta_entry, is_part_entry}
+use Rattle.lt_machine.specs.Sound.{ListsAll}
+use Rattle.lt_codecs.proofs.ListFacts.{all_map}
+use Rattle.lt_laws.proofs.ListFacts.{all_at, any_held, any_mapped}
 use Rattle.lt_laws.proofs.ReadLaws.{all_tests}
 
 some_by : {A : Type 0} (x : A) (o : Option A) (b c : Bool) → (c ≡ true → is_some o ≡ true) → (b || c) ≡ true → is_some (cond b (Some x) o) ≡ true

@@ -1,18 +1,18 @@
 -- Entries by rising key: two lists of them agree where each key is found in both alike, and a snapshot is such a list.
 use Rattle.std.proofs.Common.{Bool, List, [], ap, ap₂, cond, false, inl, inr, refl, subst, sym, true, ℕ, ◌∙◌, ◌∷◌, ◌≡◌}
-use Rattle.std.specs.Prelude.{None, Option, Some, filter, filter_map, find, option_map, ⊤, ◌||◌}
 use Rattle.std.specs.List.{AllByRecursion, cons_option}
+use Rattle.std.specs.Prelude.{None, Option, Some, filter, filter_map, find, option_map, ⊤, ◌||◌}
 use Rattle.std.proofs.lemmas.Bool.{false≢true}
-use Rattle.lt_model.specs.Value.{Value}
-use Rattle.lt_model.specs.Key.{below, same_key}
-use Rattle.lt_model.specs.Schema.{Catalogue, Column, Table}
-use Rattle.lt_model.specs.Log.{Change}
-use Rattle.lt_model.specs.Laws.{AreKeyed}
-use Rattle.lt_model.specs.Row.{Entry, entry_of, keys_of, row_at, snapshot}
-use Rattle.lt_laws.proofs.ListFacts.{all_at, find_held, from_filter_map, mapped_some}
-use Rattle.lt_laws.proofs.PointLaws.{above, below_trans, itself, same, swapped}
-use Rattle.lt_laws.proofs.SnapshotLaws.{AreOver, AreRising, IsNamed, IsOne, Named, all_named, apart, changed_or_found, entry_at, has_key, keys_all, keys_rising, named_once, no_row}
-use Rattle.lt_laws.proofs.SoundLaws.{pick}
+use Rattle.lt_terms.specs.Key.{below, same_key}
+use Rattle.lt_terms.specs.Log.{Change}
+use Rattle.lt_terms.specs.Value.{Value}
+use Rattle.lt_tables.specs.Row.{AreKeyed, Entry, entry_of, keys_of, row_at, snapshot}
+use Rattle.lt_tables.specs.Schema.{Catalogue, Column, Table}
+use Rattle.lt_lemmas.proofs.PointLaws.{above, below_trans, itself, same, swapped}
+use Rattle.lt_lemmas.proofs.SnapshotLaws.{AreOver, AreRising, IsNamed, IsOne, Named, all_named, apart, changed_or_found, entry_at, has_key, keys_all, keys_rising, named_once, no_row}
+use Rattle.lt_lemmas.proofs.SoundLaws.{pick}
+use Rattle.lt_lemmas.proofs.ListFacts.{find_held, mapped_some}
+use Rattle.lt_laws.proofs.ListFacts.{all_at, from_filter_map}
 
 -- ---- entries by rising key
 

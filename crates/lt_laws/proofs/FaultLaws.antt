@@ -1,18 +1,18 @@
 -- A fault in place of an answer leaves a good session: what a pump took is pending, and what a failed command would have left is sound.
 use Rattle.std.proofs.Common.{List, ap, false, inl, inr, subst, sym, true, ◌∙◌, ◌≡◌}
 use Rattle.std.specs.Prelude.{IfSome, IsTrue, None, Option, Some, unwrap_or, ◌⊎◌}
-use Rattle.lt_model.specs.Log.{Change, Header, Item}
-use Rattle.lt_model.specs.Fair.{Feed}
-use Rattle.lt_model.specs.Laws.{FaultKeeps}
-use Rattle.lt_model.specs.Machine.{Answer, Does, State, Step, StepBy, refused}
-use Rattle.lt_model.specs.Reply.{Refusal, out_of_memory}
-use Rattle.lt_model.specs.Run.{TakesSome, WouldLeave, is_disk_fault}
-use Rattle.lt_model.specs.Script.{Command, do_compact, do_deltas, do_flush, do_job_begin, do_job_drop, do_job_finish, do_job_step, do_page, do_pump, do_reopen, do_retain, do_retire, do_scan, do_schema, do_split, do_status}
-use Rattle.lt_model.specs.Sound.{FailedIsSound, IsGood, IsSoundFor, source_of}
-use Rattle.lt_model.specs.Store.{Durable}
+use Rattle.lt_terms.specs.Log.{Change, Header, Item}
+use Rattle.lt_world.specs.Feed.{Feed}
+use Rattle.lt_tables.specs.Query.{Command, do_compact, do_deltas, do_flush, do_job_begin, do_job_drop, do_job_finish, do_job_step, do_page, do_pump, do_reopen, do_retain, do_retire, do_scan, do_schema, do_split, do_status}
+use Rattle.lt_words.specs.Reply.{Refusal, out_of_memory}
+use Rattle.lt_storage.specs.Store.{Durable}
+use Rattle.lt_machine.specs.Machine.{Answer, Does, State, Step, StepBy, refused}
+use Rattle.lt_machine.specs.Run.{TakesSome, WouldLeave, is_disk_fault}
+use Rattle.lt_machine.specs.Sound.{FailedIsSound, IsGood, IsSoundFor, source_of}
+use Rattle.lt_machine.specs.Laws.{FaultKeeps}
 use Rattle.lt_laws.proofs.AllSteps.{step_keeps}
-use Rattle.lt_laws.proofs.PumpLaws.{pumped}
 use Rattle.lt_laws.proofs.StepLaws.{good_sound}
+use Rattle.lt_laws.proofs.PumpLaws.{pumped}
 
 -- ---- what a command that fails would have left
 

@@ -1,21 +1,21 @@
 -- What is set in columns reads back from the cells.
-use Rattle.std.proofs.Common.{◌≡◌, ℕ, ℤ, suc, zero, refl, List, [], ◌∷◌, ◌++◌, true, false, ap, sym, ◌∙◌, arith, subst, ◌+◌, ◌<◌, ◌≤◌, ltb-true, leb-true, ne_eqb, true≢false, append_assoc, length, inl, inr, ◌⊎◌}
-use Rattle.std.specs.Prelude.{Bool, Option, None, Some, nat_le, ◌&&◌, ◌||◌, ◌==◌, IsTrue, nat_lt, cond, find, filter_map, map, not, max}
-use Rattle.std.specs.List.{list_all, list_any}
-use Rattle.std.specs.Option.{option_map_or, option_or}
-use Rattle.std.proofs.lemmas.Bool.{false≢true, and_parts, and_from, eq-eqb, eqb-true, eqb-false, cases_eq}
+use Rattle.std.proofs.Common.{List, [], ap, append_assoc, arith, false, inl, inr, leb-true, length, ltb-true, ne_eqb, refl, subst, suc, sym, true, true≢false, zero, ℕ, ℤ, ◌++◌, ◌+◌, ◌<◌, ◌∙◌, ◌∷◌, ◌≡◌, ◌≤◌, ◌⊎◌}
+use Rattle.std.proofs.lemmas.Bool.{and_from, and_parts, cases_eq, eq-eqb, eqb-false, eqb-true, false≢true}
+use Rattle.std.specs.Prelude.{Bool, IsTrue, None, Option, Some, cond, filter_map, find, map, max, nat_le, nat_lt, not, ◌&&◌, ◌==◌, ◌||◌}
 use Rattle.std.proofs.lemmas.List.{append-nil, length-append, map-append}
+use Rattle.std.specs.Option.{option_map_or, option_or}
 use Rattle.std.proofs.lemmas.List.Folds.{find-append}
 use Rattle.std.proofs.lemmas.List.Elements.{filter_map-append}
-use Rattle.lt_model.specs.declared.Rank.{Rank}
-use Rattle.lt_model.specs.declared.Rank.TheVariants as rank
-use Rattle.lt_model.specs.Value.{Fields, Value, bool_value, bytes_value, field_value, fields_of, int_value, is_number, no_fields, null_value, rises_above, struct_value, text_value, value_at}
-use Rattle.lt_model.specs.Kind.{FieldKinds, Kind, enumeration, field_kind, has_shape, have_shapes, nesting, nestings, no_kinds, plain, structured}
-use Rattle.lt_model.specs.Schema.{field_numbers}
-use Rattle.lt_model.specs.Layout.{Cell, Leaf, at_path, bool_cell, cell_of, field_leaves, field_of, flatten, is_present, is_structure, is_unset, layout_of, leaf_cell, leaves, next_field, same_path, sets, setting, unflatten, unset, value_along, value_from, value_of, with_cells}
-use Rattle.lt_model.specs.Store.{IsLayout, are_store_kinds, is_store_kind}
-use Rattle.lt_model.specs.Laws.{FlattensBack, are_settings}
-use Rattle.lt_laws.proofs.ConversionLemmas.{are_rising, is_rising}
+use Rattle.std.specs.List.{list_all, list_any}
+use Rattle.lt_terms.specs.Layout.{Cell, Leaf, at_path, bool_cell, cell_of, field_leaves, field_of, flatten, is_present, is_structure, is_unset, layout_of, leaf_cell, leaves, next_field, same_path, sets, setting, unflatten, unset, value_along, value_from, value_of, with_cells}
+use Rattle.lt_terms.specs.Kind.{FieldKinds, Kind, enumeration, field_kind, has_shape, have_shapes, nesting, nestings, no_kinds, plain, structured}
+use Rattle.lt_terms.specs.declared.Rank.{Rank}
+use Rattle.lt_terms.specs.Value.{Fields, Value, bool_value, bytes_value, field_value, fields_of, int_value, is_number, no_fields, null_value, rises_above, struct_value, text_value, value_at}
+use Rattle.lt_tables.specs.Schema.{field_numbers}
+use Rattle.lt_storage.specs.Store.{IsLayout, are_store_kinds, is_store_kind}
+use Rattle.lt_machine.specs.Laws.{FlattensBack, are_settings}
+use Rattle.lt_lemmas.proofs.ConversionLemmas.{are_rising, is_rising}
+use Rattle.lt_terms.specs.declared.Rank.TheVariants as rank
 
 -- ---- paths
 

@@ -1,35 +1,39 @@
 -- A flush keeps a good session: what was pending in the partition is stored, and the partition is durable up to its checkpoint.
-use Rattle.std.proofs.Common.{Bool, List, [], ap, ap₂, arith, drop, false, inl, inr, le-leb, leb-true, length, ltb-false, lt-ltb, ltb-true, refl, subst, suc, sym, take, true, zero, ℕ, ◌+◌, ◌++◌, ◌-◌, ◌<◌, ◌∙◌, ◌∷◌, ◌≡◌, ◌≤◌}
+use Rattle.std.proofs.Common.{Bool, List, [], ap, ap₂, arith, drop, false, inl, inr, le-leb, leb-false, leb-true, length, lt-ltb, ltb-false, ltb-true, refl, subst, suc, sym, take, true, zero, ℕ, ◌++◌, ◌+◌, ◌-◌, ◌<◌, ◌∙◌, ◌∷◌, ◌≡◌, ◌≤◌}
 use Rattle.std.specs.Prelude.{Contains, IsTrue, Option, Some, fold, map, max, min, nat_le, nat_lt, not, slice_get, unwrap_or, zip, ◌&&◌, ◌==◌, ◌^◌}
 use Rattle.std.specs.List.{AllByRecursion, cons_option, list_all, list_any}
 use Rattle.std.proofs.lemmas.Bool.{and_from, and_parts, eqb-false, or_parts}
-use Rattle.std.proofs.Common.{leb-false}
 use Rattle.std.proofs.lemmas.List.{take-append-drop}
-use Rattle.lt_model.specs.Key.{Range, in_range, meets, tile}
-use Rattle.lt_model.specs.Schema.{Catalogue, change_at, when}
-use Rattle.lt_model.specs.Log.{Change, Header, Item, change_key, changes_of}
-use Rattle.lt_model.specs.Fair.{Feed, checkpoint_of, header_length, is_fair}
-use Rattle.lt_model.specs.Version.{seen}
-use Rattle.lt_model.specs.Store.{Delta, IsLawfulPart, Part, bare_manifest, is_delta_entry, is_part_entry, is_stream_entry, part_ranges, stored}
-use Rattle.lt_model.specs.Machine.{Job, State, StreamAt, cat_of, checkpoint_at, checkpoints_meeting, flush_id, flushed_lists, is_worn, least, pending_of, ranges_of, resume_after, streams_after, with_delta, with_id, with_resume}
-use Rattle.lt_model.specs.Reply.{no_partition, too_many_deltas, worn}
-use Rattle.lt_model.specs.Script.{do_flush}
-use Rattle.lt_model.specs.Sound.{AreAtPlaces, FrontsFrom, IsGood, JobBegan, JobStands, PendingOf, PendingOfAll, SoundPart, SoundParts, items_before, passed, source_of}
-use Rattle.lt_laws.proofs.AddedSession.{mapped_tests, IsSoundAt, adds_at, entry_made, entry_parts, flush_delta, good_source, session_added, with_added}
-use Rattle.lt_laws.proofs.DeltaAdded.{lists_too, pending_stored, same_change, store_grown}
-use Rattle.lt_laws.proofs.DurableFacts.{got_is_held, listed_known, map_tests, named_at, part_entries}
+use Rattle.lt_terms.specs.Key.{Range, in_range, meets, tile}
+use Rattle.lt_terms.specs.Log.{Change, Header, Item, change_key, changes_of}
+use Rattle.lt_world.specs.Feed.{Feed}
+use Rattle.lt_tables.specs.Schema.{Catalogue, change_at, when}
+use Rattle.lt_tables.specs.Fair.{checkpoint_of, header_length, is_fair}
+use Rattle.lt_tables.specs.Pump.{Part, StreamAt}
+use Rattle.lt_tables.specs.Version.{seen}
+use Rattle.lt_tables.specs.Query.{do_flush}
+use Rattle.lt_words.specs.Reply.{no_partition, too_many_deltas, worn}
+use Rattle.lt_storage.specs.Store.{Delta, IsLawfulPart, bare_manifest, is_delta_entry, is_part_entry, is_stream_entry, part_ranges, stored}
+use Rattle.lt_machine.specs.Machine.{Job, State, cat_of, checkpoint_at, checkpoints_meeting, flush_id, flushed_lists, is_worn, least, pending_of, ranges_of, resume_after, streams_after, with_delta, with_id, with_resume}
+use Rattle.lt_machine.specs.Sound.{AreAtPlaces, FrontsFrom, IsGood, JobBegan, JobStands, PendingOf, PendingOfAll, SoundPart, SoundParts, items_before, passed, source_of}
+use Rattle.lt_codecs.proofs.ListFacts.{all_append, all_both, all_map}
+use Rattle.lt_lemmas.proofs.SoundLaws.{pick}
+use Rattle.lt_lemmas.proofs.PartsChanged.{change_twice, changed_there, length_changed}
+use Rattle.lt_lemmas.proofs.ListFacts.{all_contained, when_none}
 use Rattle.lt_laws.proofs.FrontLaws.{checkpoint_rises}
-use Rattle.lt_laws.proofs.JobLaws.{as_many}
-use Rattle.lt_laws.proofs.ListFacts.{all_append, all_at, all_both, all_contained, all_map, contains_front, contains_rest}
-use Rattle.lt_laws.proofs.NewDelta.{tests_hold}
-use Rattle.lt_laws.proofs.PartsChanged.{all_changed, any_changed, change_twice, changed_there, each_changed, length_changed, lows_changed, pending_at, pending_changed, ranges_changed}
+use Rattle.lt_laws.proofs.SoundLaws.{before-take, changes-take, checkpoint-is, kept-by, least-all, open-items}
 use Rattle.lt_laws.proofs.PlaceLaws.{place_checkpoint}
-use Rattle.lt_laws.proofs.PointLaws.{when_none}
-use Rattle.lt_laws.proofs.PointsAfter.{entries_after, points_sound, streams_length}
+use Rattle.lt_laws.proofs.ListFacts.{all_at, contains_front, contains_rest}
 use Rattle.lt_laws.proofs.ScanLaws.{IsPassed, passed_all, seen_in}
-use Rattle.lt_laws.proofs.SoundLaws.{before-take, changes-take, checkpoint-is, kept-by, least-all, open-items, pick}
+use Rattle.lt_laws.proofs.AddedSession.{IsSoundAt, adds_at, entry_made, entry_parts, flush_delta, good_source, mapped_tests, session_added, with_added}
+use Rattle.lt_laws.proofs.DurableFacts.{got_is_held, listed_known, map_tests, named_at, part_entries}
+use Rattle.lt_laws.proofs.PartsChanged.{all_changed, any_changed, each_changed, lows_changed, pending_at, pending_changed, ranges_changed}
+use Rattle.lt_laws.proofs.NewDelta.{tests_hold}
+use Rattle.lt_laws.proofs.PointsAfter.{entries_after, points_sound, streams_length}
 use Rattle.lt_laws.proofs.SplitLaws.{Each, StandsAt, each_sound, each_zipped, lows_of, sound_each, zipped_each}
+use Rattle.lt_laws.proofs.JobLaws.{as_many}
 use Rattle.lt_laws.proofs.StepLaws.{KeepsDoing, if_some, next_generation, unrefused}
+use Rattle.lt_laws.proofs.DeltaAdded.{lists_too, pending_stored, same_change, store_grown}
 
 -- ---- the checkpoint of a partition
 

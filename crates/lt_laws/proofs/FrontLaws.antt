@@ -1,18 +1,22 @@
 -- A stream has one front; what was the front is a front of the front of a longer feed, under a catalogue that grew.
-use Rattle.std.proofs.Common.{drop, get_or, List, [], ap, append-nil, append_assoc, ap₂, arith, length, ltb-false, refl, subst, suc, sym, true, zero, ℕ, ◌++◌, ◌+◌, ◌<◌, ◌∙◌, ◌∷◌, ◌≡◌, ◌≤◌}
+use Rattle.std.proofs.Common.{List, [], ap, append-nil, append_assoc, ap₂, arith, drop, get_or, length, ltb-false, refl, subst, sym, true, ℕ, ◌++◌, ◌+◌, ◌<◌, ◌∙◌, ◌∷◌, ◌≡◌, ◌≤◌}
 use Rattle.std.specs.Prelude.{IsTrue, None, flat_map, fold, is_none, nat_lt, ⊤, ◌≢◌}
 use Rattle.std.specs.List.{AllByRecursion}
-use Rattle.std.proofs.lemmas.Bool.{and_from, false≢true}
 use Rattle.std.proofs.lemmas.List.{append_cancel_left, length-append}
-use Rattle.lt_model.specs.Schema.{Became, Catalogue, IsCatalogue, when}
-use Rattle.lt_model.specs.Log.{Change, Header, IsPrefixFree, Item, bytes16, header_body, magic, optional, origin_at, u32, batch_item, change_item, changes_in, changes_of, checkpoint_item, close_item, header_item, is_item, spelled}
-use Rattle.lt_model.specs.Fair.{AllSuccessorsStand, AreSuccessors, Feed, Grows, HasHeader, IsPrefix, SuccessorsStand, after_close, backward, breaks, checkpoint_of, fair_after, is_closed, is_fair, item_fault, last_checkpoint, point_after, point_of, stream_bytes}
-use Rattle.lt_model.specs.Laws.{GrowsLaws}
-use Rattle.lt_model.specs.Sound.{Fronts, FrontsFrom}
-use Rattle.lt_model.specs.declared.Format.{Format}
-use Rattle.lt_model.specs.declared.Format.TheVariants as format
+use Rattle.std.proofs.lemmas.Bool.{and_from}
+use Rattle.lt_terms.specs.Log.{Change, Header, IsPrefixFree, Item, batch_item, bytes16, change_item, changes_in, changes_of, checkpoint_item, close_item, header_body, header_item, is_item, magic, optional, origin_at, spelled, u32}
+use Rattle.lt_terms.specs.declared.Format.{Format}
+use Rattle.lt_world.specs.Feed.{Feed, Grows, stream_bytes}
+use Rattle.lt_tables.specs.Schema.{Became, Catalogue, IsCatalogue, when}
+use Rattle.lt_tables.specs.Fair.{AllSuccessorsStand, HasHeader, IsPrefix, SuccessorsStand, after_close, backward, breaks, checkpoint_of, fair_after, is_closed, is_fair, item_fault, last_checkpoint, point_after, point_of}
+use Rattle.lt_machine.specs.Laws.{GrowsLaws}
+use Rattle.lt_machine.specs.Sound.{Fronts, FrontsFrom}
+use Rattle.lt_codecs.proofs.ListFacts.{or_left}
+use Rattle.lt_lemmas.proofs.PointLaws.{change_rises, changes_above, item_fair, last_checkpoint-append, left, none, point_suffices, right}
+use Rattle.lt_lemmas.proofs.FrontLaws.{bytes_grow, grows_itself, grows_then, header_stays, successors_stay}
+use Rattle.lt_lemmas.proofs.ListFacts.{when_none}
 use Rattle.lt_laws.proofs.CatalogueLaws.{fair_stays}
-use Rattle.lt_laws.proofs.PointLaws.{change_rises, changes_above, item_fair, last_checkpoint-append, left, none, or_left, point_suffices, right, when_none}
+use Rattle.lt_terms.specs.declared.Format.TheVariants as format
 
 -- ---- the front of a stream
 
@@ -41,31 +45,6 @@ begins free feed cat h before (i ∷ is) (j ∷ js) r s law lawj fair stand e en
 
 -- ---- a longer feed
 
-pub bytes_grow : (feed more : Feed) → Grows feed more → (s : ℕ) → (extra : List ℕ) × (stream_bytes more s ≡ stream_bytes feed s ++ extra)
-bytes_grow [] more g s = (stream_bytes more s, refl)
-bytes_grow (old ∷ olds) [] g s = absurd g
-bytes_grow (old ∷ olds) (now ∷ nows) g zero = g.0
-bytes_grow (old ∷ olds) (now ∷ nows) g (suc s) = bytes_grow olds nows g.1 s
-
-pub header_stays : (feed more : Feed) → Grows feed more → (s : ℕ) (h : Header) → HasHeader feed s h → HasHeader more s h
-header_stays feed more g s h has = let b = bytes_grow feed more g s in record {
-  number = has.number;
-  lawful = has.lawful;
-  rest = has.rest ++ b.0;
-  spells = b.1 ∙ ap (λ x. x ++ b.0) has.spells ∙ append_assoc (spelled (header_item h)) has.rest b.0;
-}
-
-are_successors_stay : (feed more : Feed) → Grows feed more → (h : Header) (t first : ℕ) (gs : List Header) → AreSuccessors feed h t first gs → AreSuccessors more h t first gs
-are_successors_stay feed more grows h t first [] a = tt
-are_successors_stay feed more grows h t first (g ∷ gs) a = (header_stays feed more grows first g a.0, a.1, a.2, a.3, are_successors_stay feed more grows h t (first + 1) gs a.4)
-
-pub successors_stay : (feed more : Feed) → Grows feed more → (h : Header) (t : ℕ) (i : Item) → SuccessorsStand feed h t i → SuccessorsStand more h t i
-successors_stay feed more grows h t (header_item k) a = tt
-successors_stay feed more grows h t (change_item c) a = tt
-successors_stay feed more grows h t (checkpoint_item u) a = tt
-successors_stay feed more grows h t (batch_item u cs) a = tt
-successors_stay feed more grows h t (close_item first count) a = (a.0, a.1, are_successors_stay feed more grows h t first a.0 a.2, a.3)
-
 pub all_successors_stay : (feed more : Feed) → Grows feed more → (h : Header) (before items : List Item) → AllSuccessorsStand feed h before items → AllSuccessorsStand more h before items
 all_successors_stay feed more grows h before [] a = tt
 all_successors_stay feed more grows h before (i ∷ items) a = (successors_stay feed more grows h (checkpoint_of h before) i a.0, all_successors_stay feed more grows h (before ++ i ∷ []) items a.1)
@@ -84,18 +63,6 @@ front_begins free feed more cat h is js grows lawful fair stand rest spells q =
 -- what was the front is a front of the new front
 pub front_stays : IsPrefixFree → (feed more : Feed) (cat : Catalogue) (h : Header) (is js : List Item) → Grows feed more → IsPrefix feed cat h is → IsPrefix more cat h js → Front is js
 front_stays free feed more cat h is js grows p q = front_begins free feed more cat h is js grows p.lawful p.fair p.successors p.rest p.spells q
-
-pub grows_itself : (feed : Feed) → Grows feed feed
-grows_itself [] = tt
-grows_itself (b ∷ bs) = (([], sym (append-nil b)), grows_itself bs)
-
-pub grows_then : (a b c : Feed) → Grows a b → Grows b c → Grows a c
-grows_then [] [] [] h k = tt
-grows_then [] [] (z ∷ c) h k = k
-grows_then [] (y ∷ b) c h k = absurd (false≢true h)
-grows_then (x ∷ a) [] c h k = absurd h
-grows_then (x ∷ a) (y ∷ b) [] h k = absurd k
-grows_then (x ∷ a) (y ∷ b) (z ∷ c) h k = ((h.0.0 ++ k.0.0, k.0.1 ∙ ap (λ s. s ++ k.0.0) h.0.1 ∙ append_assoc x h.0.0 k.0.0), grows_then a b c h.1 k.1)
 
 pub grows_laws : GrowsLaws
 grows_laws = record { itself = grows_itself; through = grows_then }

@@ -1,25 +1,26 @@
 -- Every stream with a header has a front: the items that stand whole behind it, up to the first that breaks a rule or does not stand.
-use Rattle.std.proofs.Common.{Bool, List, [], ap, append-nil, append_assoc, arith, false, length, refl, subst, suc, sym, true, zero, ℕ, ◌+◌, ◌++◌, ◌<◌, ◌∙◌, ◌∷◌, ◌≡◌}
+use Rattle.std.proofs.Common.{Bool, List, [], ap, append-nil, append_assoc, arith, false, length, refl, subst, suc, sym, true, zero, ℕ, ◌++◌, ◌+◌, ◌<◌, ◌∙◌, ◌∷◌, ◌≡◌}
 use Rattle.std.specs.Prelude.{IsTrue, None, Option, Some, flat_map, is_none, map, ◌&&◌}
-use Rattle.std.specs.List.{AllByRecursion}
 use Rattle.std.proofs.lemmas.Bool.{and_from, and_parts}
+use Rattle.std.specs.List.{AllByRecursion}
 use Rattle.std.proofs.lemmas.List.{length-append}
-use Rattle.lt_model.specs.declared.Format.{Format}
-use Rattle.lt_model.specs.Key.{Range, all_keys, same_key}
-use Rattle.lt_model.specs.Schema.{Catalogue}
-use Rattle.lt_model.specs.Log.{Header, Item, batch_item, change_item, checkpoint_item, close_item, header_item, is_item, is_read, spelled}
-use Rattle.lt_model.specs.Fair.{AllSuccessorsStand, Feed, Grows, HasHeader, IsPrefix, SuccessorsStand, Unfair, breaks, checkpoint_of, fair_after, stream_bytes}
-use Rattle.lt_model.specs.Sound.{AreTiling, Fronts, FrontsFrom, SoundGrows}
+use Rattle.lt_terms.specs.declared.Format.{Format}
+use Rattle.lt_terms.specs.Log.{Header, Item, batch_item, change_item, checkpoint_item, close_item, header_item, is_item, is_read, spelled}
+use Rattle.lt_terms.specs.Key.{Range, all_keys, same_key}
+use Rattle.lt_world.specs.Feed.{Feed, Grows, stream_bytes}
+use Rattle.lt_tables.specs.Schema.{Catalogue}
+use Rattle.lt_tables.specs.Fair.{AllSuccessorsStand, HasHeader, IsPrefix, SuccessorsStand, Unfair, breaks, checkpoint_of, fair_after}
+use Rattle.lt_machine.specs.Sound.{AreTiling, Fronts, FrontsFrom, SoundGrows}
+use Rattle.lt_machine.specs.Laws.{FrontLaws, HeadersFrom}
 use Rattle.lt_codecs.specs.LogCodec.{item}
 use Rattle.lt_codecs.proofs.ItemCodecs.{item_is}
 use Rattle.lt_codecs.proofs.LogLaws.{frames_prefix_free}
-use Rattle.lt_laws.proofs.FrontLaws.{Ends, header_stays}
-use Rattle.lt_laws.proofs.PointLaws.{itself, none, same}
-use Rattle.lt_laws.proofs.CatalogueLaws.{fair_stays}
-use Rattle.lt_laws.proofs.FrontLaws.{front_stays_longer, front_unique}
-use Rattle.lt_model.specs.Laws.{FrontLaws, HeadersFrom}
+use Rattle.lt_lemmas.proofs.PointLaws.{itself, none, same}
+use Rattle.lt_lemmas.proofs.FrontLaws.{header_stays}
+use Rattle.lt_laws.proofs.FrontLaws.{Ends, front_stays_longer, front_unique}
 use Rattle.lt_laws.proofs.SoundLaws.{grows-same, sound_grows_where}
-use Rattle.lt_model.specs.declared.Format.TheVariants as format
+use Rattle.lt_laws.proofs.CatalogueLaws.{fair_stays}
+use Rattle.lt_terms.specs.declared.Format.TheVariants as format
 
 -- ---- what stands at the front of some bytes
 

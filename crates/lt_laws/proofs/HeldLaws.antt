@@ -2,18 +2,19 @@
 use Rattle.std.proofs.Common.{Bool, List, [], ap, arith, inl, inr, leb-true, ltb-true, refl, subst, suc, sym, true, zero, ℕ, ◌<◌, ◌∙◌, ◌∷◌, ◌≡◌, ◌≤◌}
 use Rattle.std.specs.Prelude.{Contains, IsTrue, None, Option, Some, find, map, nat_le, nat_lt, option_map, ◌&&◌, ◌⊎◌}
 use Rattle.std.proofs.lemmas.Bool.{and_parts}
-use Rattle.lt_model.specs.Value.{rises_above, rises_strictly}
-use Rattle.lt_model.specs.Key.{same_key}
-use Rattle.lt_model.specs.Schema.{Catalogue, first_of}
-use Rattle.lt_model.specs.Log.{Change, change_key}
-use Rattle.lt_model.specs.Fair.{changes_to}
-use Rattle.lt_model.specs.Row.{is_in_time, row_at}
-use Rattle.lt_model.specs.Version.{RowVersion, asof, effect_of, is_ordered, seen}
-use Rattle.lt_model.specs.Sound.{row_cells, up_to_ts}
-use Rattle.lt_laws.proofs.ListFacts.{held_is_found}
-use Rattle.lt_laws.proofs.MergeLaws.{filter-ordered, named, named-itself, named-key, named-ts}
-use Rattle.lt_laws.proofs.PointLaws.{itself, same}
+use Rattle.lt_terms.specs.Value.{rises_above, rises_strictly}
+use Rattle.lt_terms.specs.Log.{Change, change_key}
+use Rattle.lt_terms.specs.Key.{same_key}
+use Rattle.lt_tables.specs.Fair.{changes_to}
+use Rattle.lt_tables.specs.Row.{is_in_time, row_at}
+use Rattle.lt_tables.specs.Schema.{Catalogue, first_of}
+use Rattle.lt_tables.specs.Version.{RowVersion, asof, effect_of, is_ordered, seen}
+use Rattle.lt_machine.specs.Sound.{row_cells, up_to_ts}
+use Rattle.lt_lemmas.proofs.PointLaws.{itself, same}
+use Rattle.lt_lemmas.proofs.MergeLaws.{filter-ordered, named, named-key, named-ts}
 use Rattle.lt_laws.proofs.ScanLemmas.{AreOf, found-held, from-filter, held-found, in-filter, key-reads, same-held, seen-key, seen-ts}
+use Rattle.lt_laws.proofs.MergeLaws.{named-itself}
+use Rattle.lt_laws.proofs.ListFacts.{held_is_found}
 
 -- ---- a change of a source is known by its key and timestamp
 

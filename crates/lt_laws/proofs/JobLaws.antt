@@ -1,25 +1,29 @@
 -- A job that begins or goes on keeps a good session.
 use Rattle.std.proofs.Common.{Bool, List, [], ap, arith, cond, eq-eqb, false, inl, inr, leb-false, length, refl, subst, suc, sym, true, zero, ℕ, ◌+◌, ◌<◌, ◌∙◌, ◌∷◌, ◌≡◌, ◌≤◌}
 use Rattle.std.specs.Prelude.{Contains, IfSome, IsTrue, None, Option, Some, filter, find, fold, is_some, map, min, nat_le, not, option_and_then, option_map, slice_get, ◌==◌, ◌⊎◌}
+use Rattle.std.proofs.lemmas.Bool.{and_from, false≢true, not-false}
 use Rattle.std.specs.List.{AllByRecursion, cons_option, list_any}
 use Rattle.std.specs.Option.{option_map_or}
-use Rattle.std.proofs.lemmas.Bool.{and_from, false≢true, not-false}
-use Rattle.lt_model.specs.Key.{Range, below, common, first_bound, in_range, is_below_high, meets, rise}
-use Rattle.lt_model.specs.Schema.{Catalogue, as_it_was, carriers}
-use Rattle.lt_model.specs.Version.{RowVersion, clip, coerce_all, coerced, least_ts, merge, put_version, put_versions, same_name, stands_before}
-use Rattle.lt_model.specs.Store.{AreLawfulTables, Delta, Durable, IsLawfulPart, Part, TableDelta, table_of, versions_in, all_versions, carried_versions, delta_with, deltas_of, merged_in, part_ranges}
-use Rattle.lt_model.specs.Machine.{Job, State, is_major_mode, unknown_in, delta_least, inputs_of, job_after, job_for, job_keys, ranges_of}
-use Rattle.lt_model.specs.Reply.{no_such_delta}
-use Rattle.lt_model.specs.Script.{Mode, do_job_begin, do_job_step, major, minor}
-use Rattle.lt_model.specs.Sound.{IsGood, JobBegan, JobStands, ListsAll}
-use Rattle.lt_laws.proofs.DurableFacts.{IsKnown, inputs_known}
-use Rattle.lt_laws.proofs.ListFacts.{all_at, all_from, all_map, find_held, find_none, flat_held, from_filter_map, from_map, none_mapped}
+use Rattle.lt_terms.specs.Key.{Range, below, common, first_bound, in_range, is_below_high, meets, rise}
+use Rattle.lt_tables.specs.Pump.{Part}
+use Rattle.lt_tables.specs.Version.{RowVersion, clip, coerce_all, coerced, least_ts, merge, put_version, put_versions, same_name, stands_before}
+use Rattle.lt_tables.specs.Schema.{Catalogue, as_it_was, carriers}
+use Rattle.lt_tables.specs.Query.{Mode, do_job_begin, do_job_step, major, minor}
+use Rattle.lt_words.specs.Reply.{no_such_delta}
+use Rattle.lt_storage.specs.Store.{AreLawfulTables, Delta, Durable, IsLawfulPart, TableDelta, all_versions, carried_versions, delta_with, deltas_of, merged_in, part_ranges, table_of, versions_in}
+use Rattle.lt_machine.specs.Sound.{IsGood, JobBegan, JobStands, ListsAll}
+use Rattle.lt_machine.specs.Machine.{Job, State, delta_least, inputs_of, is_major_mode, job_after, job_for, job_keys, ranges_of, unknown_in}
+use Rattle.lt_codecs.proofs.ListFacts.{all_map, find_none, none_mapped}
+use Rattle.lt_lemmas.proofs.RangeLaws.{IsOutOf, IsSole, tile_sole}
+use Rattle.lt_lemmas.proofs.SplitLaws.{meets_some, not_below_itself, rise_first, rise_rest}
+use Rattle.lt_lemmas.proofs.ListFacts.{all_from, find_held}
+use Rattle.lt_lemmas.proofs.SoundLaws.{pick}
+use Rattle.lt_laws.proofs.SplitLaws.{Each, RestsIn, StandsAt, each_as, each_zipped, lows_of}
 use Rattle.lt_laws.proofs.ReadLaws.{or_left, or_right}
-use Rattle.lt_laws.proofs.RangeLaws.{IsOutOf, IsSole, tile_sole}
 use Rattle.lt_laws.proofs.ScanLemmas.{from-filter, in-filter}
+use Rattle.lt_laws.proofs.ListFacts.{all_at, flat_held, from_filter_map, from_map}
+use Rattle.lt_laws.proofs.DurableFacts.{IsKnown, inputs_known}
 use Rattle.lt_laws.proofs.ScanLaws.{tiles_of}
-use Rattle.lt_laws.proofs.SoundLaws.{pick}
-use Rattle.lt_laws.proofs.SplitLaws.{Each, RestsIn, StandsAt, each_as, each_zipped, lows_of, meets_some, not_below_itself, rise_first, rise_rest}
 use Rattle.lt_laws.proofs.StepLaws.{KeepsDoing, unrefused}
 
 -- ---- of ranges that tile, the chosen one meets no other

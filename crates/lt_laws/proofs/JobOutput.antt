@@ -1,36 +1,39 @@
 -- What a compaction's output holds: its inputs merged, and collapsed where it is major, under each catalogue that its own became.
 use Rattle.std.proofs.Common.{Bool, List, [], ap, arith, cond, eqb-true, false, inl, inr, length, refl, subst, suc, sym, true, zero, ℕ, ◌∙◌, ◌∷◌, ◌≡◌}
 use Rattle.std.specs.Prelude.{Contains, IsTrue, None, Option, Some, map, nat_le, nat_lt, ◌&&◌, ◌==◌}
+use Rattle.std.proofs.lemmas.Bool.{and_from, and_parts}
 use Rattle.std.specs.List.{AllByRecursion, list_all}
 use Rattle.std.specs.Option.{option_map_or}
-use Rattle.std.proofs.lemmas.Bool.{and_from, and_parts}
-use Rattle.lt_model.specs.Value.{is_number, rises_above}
-use Rattle.lt_model.specs.Kind.{FieldKinds, Kind, enumeration, field_kind, nesting, no_kinds, plain, structured}
-use Rattle.lt_model.specs.Key.{Range, in_range}
-use Rattle.lt_model.specs.Layout.{Leaf, layout_of, with_cells}
-use Rattle.lt_model.specs.Schema.{Became, Catalogue, IsCatalogue, Table, as_it_was, carrier_layout, carriers, table_numbered, then_added, then_retired, with_version, without_version}
-use Rattle.lt_model.specs.Version.{RowVersion, clip, coerce_all, coerced, collapse, compose, is_ordered, is_version, merge}
-use Rattle.lt_model.specs.Store.{AreLawfulTables, Delta, IsKeyBytes, IsLawfulTable, IsLayout, TableDelta, are_store_kinds, carried_versions, is_covered, is_store_kind, table_of, versions_in}
-use Rattle.lt_model.specs.Machine.{delta_of, table_delta}
-use Rattle.lt_laws.proofs.CatalogueLaws.{became_lawful}
-use Rattle.lt_laws.proofs.CatalogueSteps.{carried_long}
-use Rattle.lt_laws.proofs.ClipLaws.{coerce-clip, coerce-merge}
-use Rattle.lt_laws.proofs.CoerceLaws.{AreLong, IsServed, map_same}
-use Rattle.lt_laws.proofs.CollapseLaws.{IsMade, PassesOver, collapse_all, collapse_goes, composed_made, goes_made, made_own, made_version}
-use Rattle.lt_laws.proofs.ConversionLemmas.{are_rising, is_rising}
-use Rattle.lt_laws.proofs.JobLaws.{puts_from}
+use Rattle.lt_terms.specs.Key.{Range, in_range}
+use Rattle.lt_terms.specs.Value.{is_number, rises_above}
+use Rattle.lt_terms.specs.Kind.{FieldKinds, Kind, enumeration, field_kind, nesting, no_kinds, plain, structured}
+use Rattle.lt_terms.specs.Layout.{Leaf, layout_of, with_cells}
+use Rattle.lt_tables.specs.Version.{RowVersion, clip, coerce_all, coerced, collapse, compose, is_ordered, is_version, merge}
+use Rattle.lt_tables.specs.Schema.{Became, Catalogue, IsCatalogue, Table, as_it_was, carrier_layout, carriers, table_numbered, then_added, then_retired, with_version, without_version}
+use Rattle.lt_storage.specs.Store.{AreLawfulTables, Delta, IsKeyBytes, IsLawfulTable, IsLayout, TableDelta, are_store_kinds, carried_versions, is_covered, is_store_kind, table_of, versions_in}
+use Rattle.lt_machine.specs.Machine.{delta_of, table_delta}
+use Rattle.lt_codecs.proofs.ListFacts.{all_map}
+use Rattle.lt_lemmas.proofs.ConversionLemmas.{are_rising, is_rising}
+use Rattle.lt_lemmas.proofs.TableLaws.{fine_table}
+use Rattle.lt_lemmas.proofs.ListFacts.{all_from, find_held}
+use Rattle.lt_lemmas.proofs.MergeLaws.{clip-ordered}
 use Rattle.lt_laws.proofs.LeafLaws.{AreColumns, IsMarked}
-use Rattle.lt_laws.proofs.ListFacts.{all_at, all_from, all_map, find_held, from_map}
-use Rattle.lt_laws.proofs.MergeLaws.{clip-ordered, merge-ordered}
-use Rattle.lt_laws.proofs.MomentLaws.{collapse-ordered}
-use Rattle.lt_laws.proofs.NewDelta.{number_known, part_made, tables_rise}
 use Rattle.lt_laws.proofs.ReadLaws.{all_tests}
-use Rattle.lt_laws.proofs.ScanLemmas.{from-filter}
-use Rattle.lt_laws.proofs.ShelfGrowth.{known_number, lists_of, made_carried, made_part}
 use Rattle.lt_laws.proofs.TableGrowth.{are_columns, cols}
-use Rattle.lt_laws.proofs.TableLaws.{fine_table}
+use Rattle.lt_laws.proofs.CollapseLaws.{IsMade, PassesOver, collapse_all, collapse_goes, composed_made, goes_made, made_own, made_version}
+use Rattle.lt_laws.proofs.CoerceLaws.{AreLong, IsServed, map_same}
+use Rattle.lt_laws.proofs.ListFacts.{all_at, from_map}
 use Rattle.lt_laws.proofs.VersionGrowth.{Grew, grew_added, grew_retired, widens_itself}
 use Rattle.lt_laws.proofs.WidenedStore.{delta_goes, delta_stays, deltas_go, known_carriers, served}
+use Rattle.lt_laws.proofs.JobLaws.{puts_from}
+use Rattle.lt_laws.proofs.ScanLemmas.{from-filter}
+use Rattle.lt_laws.proofs.MomentLaws.{collapse-ordered}
+use Rattle.lt_laws.proofs.MergeLaws.{merge-ordered}
+use Rattle.lt_laws.proofs.NewDelta.{number_known, part_made, tables_rise}
+use Rattle.lt_laws.proofs.ShelfGrowth.{known_number, lists_of, made_carried, made_part}
+use Rattle.lt_laws.proofs.ClipLaws.{coerce-clip, coerce-merge}
+use Rattle.lt_laws.proofs.CatalogueSteps.{carried_long}
+use Rattle.lt_laws.proofs.CatalogueLaws.{became_lawful}
 
 abbrev pub settled : Bool → ℕ → List RowVersion → List RowVersion
 settled is_major m vs = cond is_major (collapse m vs) vs

@@ -2,23 +2,24 @@
 use Rattle.std.proofs.Common.{Bool, List, [], ap, ap₂, arith, cond, eq-eqb, eqb-true, false, inl, inr, length, ltb-true, refl, subst, suc, sym, take, true, zero, ℕ, ◌<◌, ◌∙◌, ◌∷◌, ◌≡◌}
 use Rattle.std.specs.Prelude.{Contains, IsTrue, None, Option, Some, nat_eq, nat_lt, not, option_and_then, ◌&&◌, ◌==◌, ◌||◌, ◌⊎◌}
 use Rattle.std.specs.Cmp.Lexicographic.{pointwise}
+use Rattle.std.proofs.lemmas.Bool.{and_from, and_parts, false≢true}
 use Rattle.std.specs.List.{list_all, starts_with}
 use Rattle.std.specs.Option.{option_map_or}
-use Rattle.std.proofs.lemmas.Bool.{and_from, and_parts, false≢true}
-use Rattle.lt_model.specs.declared.Rank.{Rank}
-use Rattle.lt_model.specs.Kind.{Kind, enumeration, kind_at, kinds_of, plain, structured}
-use Rattle.lt_model.specs.Conversion.{at_rank}
-use Rattle.lt_model.specs.Layout.{Cell, Leaf, agree, are_lawful, bool_cell, bytes_cell, cell_of, cell_to, int_cell, is_below, is_unset, is_void, lacking, layout_of, null_cell, same_leaf, same_truth, says_absent, sets, suits, unset, value_of, with_cells}
-use Rattle.lt_laws.proofs.CoerceLaws.{AreFit, Cells, IsOfRank, IsServed, cell_as, cell_for, for_set_by, found_for, is_the_unset, null_to, over, set_back_by, sets_at, shape_at, unset_to}
+use Rattle.lt_terms.specs.Kind.{Kind, enumeration, kind_at, kinds_of, plain, structured}
+use Rattle.lt_terms.specs.Layout.{Cell, Leaf, agree, are_lawful, bool_cell, bytes_cell, cell_of, cell_to, int_cell, is_below, is_unset, is_void, lacking, layout_of, null_cell, same_leaf, same_truth, says_absent, sets, suits, unset, value_of, with_cells}
+use Rattle.lt_terms.specs.declared.Rank.{Rank}
+use Rattle.lt_terms.specs.Conversion.{at_rank}
+use Rattle.lt_lemmas.proofs.ListFacts.{find_held}
+use Rattle.lt_lemmas.proofs.SoundLaws.{not-true}
 use Rattle.lt_laws.proofs.LeafLaws.{AreColumns, IsMarked, Mark, all_marked, leaf_at, leaf_in, leaf_in_layout, leaf_is, leaf_of, leaf_same}
-use Rattle.lt_laws.proofs.ListFacts.{all_at, any_held, find_held, held_is_found}
-use Rattle.lt_laws.proofs.ReadLaws.{all_tests}
-use Rattle.lt_laws.proofs.ScanLemmas.{kind_for}
-use Rattle.lt_laws.proofs.SeenLaws.{AreLaid, implied, suits_plain, truths, when_same}
-use Rattle.lt_laws.proofs.SoundLaws.{not-true}
 use Rattle.lt_laws.proofs.WidenLaws.{bool_to, next_kind, presence_bool}
+use Rattle.lt_laws.proofs.ScanLemmas.{kind_for}
+use Rattle.lt_laws.proofs.ListFacts.{all_at, any_held, held_is_found}
+use Rattle.lt_laws.proofs.ReadLaws.{all_tests}
 use Rattle.lt_laws.proofs.WidenedStore.{in_layout, lawful_fit}
-use Rattle.lt_model.specs.declared.Rank.TheVariants as rank
+use Rattle.lt_laws.proofs.CoerceLaws.{AreFit, Cells, IsOfRank, IsServed, cell_as, cell_for, for_set_by, found_for, is_the_unset, null_to, over, set_back_by, sets_at, shape_at, unset_to}
+use Rattle.lt_laws.proofs.SeenLaws.{AreLaid, implied, suits_plain, truths, when_same}
+use Rattle.lt_terms.specs.declared.Rank.TheVariants as rank
 
 -- ---- a layout has the leaves above each of its leaves
 

@@ -1,20 +1,23 @@
 -- What an image holds is lawful: its bundles, one behind the other, are one ordered list, and its manifest goes by the deltas' ids alone.
-use Rattle.std.proofs.Common.{Bool, List, [], ap, ap₂, append-nil, arith, length, lt-ltb, refl, subst, suc, sym, ℕ, ◌++◌, ◌<◌, ◌∙◌, ◌∷◌, ◌≡◌}
+use Rattle.std.proofs.Common.{Bool, List, [], ap, append-nil, ap₂, arith, length, lt-ltb, refl, subst, suc, sym, ℕ, ◌++◌, ◌<◌, ◌∙◌, ◌∷◌, ◌≡◌}
 use Rattle.std.specs.Prelude.{IsTrue, Some, flat_map, map, nat_le, nat_lt, ◌&&◌, ◌==◌, ◌^◌}
-use Rattle.std.specs.List.{AllByRecursion, list_all, list_any}
 use Rattle.std.proofs.lemmas.Bool.{and_from, and_parts}
+use Rattle.std.specs.List.{AllByRecursion, list_all, list_any}
 use Rattle.std.proofs.lemmas.List.{length-map}
-use Rattle.lt_model.specs.declared.Extent.{Extent}
-use Rattle.lt_model.specs.Value.{rises_strictly}
-use Rattle.lt_model.specs.Key.{below, max_key, same_key, tile}
-use Rattle.lt_model.specs.Layout.{Leaf}
-use Rattle.lt_model.specs.Schema.{Catalogue, Table, table_numbered}
-use Rattle.lt_model.specs.Version.{AreVersions, RowVersion, is_ordered, is_version, stands_before}
-use Rattle.lt_model.specs.Store.{AreLawfulTables, BundleEntry, Delta, HasBundles, HasDeltas, HasTables, HoldsLawful, IsIndex, IsKeyBytes, IsLawfulManifest, IsLawfulPart, IsLawfulTable, IsTableIndex, Manifest, Part, TableDelta, TableIndex, bare_entry, entries_rise, fits_63, is_covered, is_delta_entry, is_entry, is_part_entry, is_root, last_key}
-use Rattle.lt_laws.proofs.DurableFacts.{named_at}
-use Rattle.lt_laws.proofs.ListFacts.{all_both, all_flat, all_map, all_of_map, all_to_map, any_mapped}
-use Rattle.lt_laws.proofs.NewDelta.{tests_hold}
+use Rattle.lt_terms.specs.Key.{below, max_key, same_key, tile}
+use Rattle.lt_terms.specs.Layout.{Leaf}
+use Rattle.lt_terms.specs.Value.{rises_strictly}
+use Rattle.lt_terms.specs.declared.Extent.{Extent}
+use Rattle.lt_world.specs.Slots.{is_root}
+use Rattle.lt_tables.specs.Version.{AreVersions, RowVersion, is_ordered, is_version, stands_before}
+use Rattle.lt_tables.specs.Schema.{Catalogue, Table, table_numbered}
+use Rattle.lt_tables.specs.Pump.{Part}
+use Rattle.lt_storage.specs.Store.{AreLawfulTables, BundleEntry, Delta, HasBundles, HasDeltas, HasTables, HoldsLawful, IsIndex, IsKeyBytes, IsLawfulManifest, IsLawfulPart, IsLawfulTable, IsTableIndex, Manifest, TableDelta, TableIndex, bare_entry, entries_rise, fits_63, is_covered, is_delta_entry, is_entry, is_part_entry, last_key}
+use Rattle.lt_codecs.proofs.ListFacts.{all_both, all_map}
 use Rattle.lt_laws.proofs.ReadLaws.{all_tests, or_left}
+use Rattle.lt_laws.proofs.ListFacts.{all_flat, all_of_map, all_to_map, any_mapped}
+use Rattle.lt_laws.proofs.NewDelta.{tests_hold}
+use Rattle.lt_laws.proofs.DurableFacts.{named_at}
 
 -- ---- bundles, one behind the other
 

@@ -1,17 +1,19 @@
 -- Where a leaf stands in a layout: by its column's kind and its path alone.
-use Rattle.std.proofs.Common.{Bool, List, [], ap, ap₂, append-nil, append_assoc, arith, cond, eq-eqb, eqb-true, false, ltb-true, ne_eqb, refl, subst, suc, sym, true, ℕ, ◌++◌, ◌<◌, ◌∙◌, ◌∷◌, ◌≡◌}
+use Rattle.std.proofs.Common.{Bool, List, [], ap, append-nil, append_assoc, ap₂, arith, cond, eq-eqb, eqb-true, false, ltb-true, ne_eqb, refl, subst, suc, sym, true, ℕ, ◌++◌, ◌<◌, ◌∙◌, ◌∷◌, ◌≡◌}
 use Rattle.std.specs.Prelude.{Contains, IsTrue, None, Option, Some, find, map, nat_lt, option_and_then, ◌&&◌, ◌==◌}
 use Rattle.std.specs.List.{AllByRecursion}
 use Rattle.std.proofs.lemmas.Bool.{and_from, and_parts, false≢true}
-use Rattle.lt_model.specs.declared.Rank.{Rank}
-use Rattle.lt_model.specs.Value.{rises_above}
-use Rattle.lt_model.specs.Kind.{FieldKinds, Kind, enumeration, field_kind, kind_at, kinds_of, no_kinds, plain, structured}
-use Rattle.lt_model.specs.Layout.{Leaf, field_leaves, layout_of, leaves, same_leaf, same_path}
+use Rattle.lt_terms.specs.declared.Rank.{Rank}
+use Rattle.lt_terms.specs.Kind.{FieldKinds, Kind, enumeration, field_kind, kind_at, kinds_of, no_kinds, plain, structured}
+use Rattle.lt_terms.specs.Layout.{Leaf, field_leaves, layout_of, leaves, same_leaf, same_path}
+use Rattle.lt_terms.specs.Value.{rises_above}
+use Rattle.lt_codecs.proofs.ListFacts.{all_append, all_both, all_map}
+use Rattle.lt_lemmas.proofs.ConversionLemmas.{are_rising, is_rising}
+use Rattle.lt_lemmas.proofs.ListFacts.{find_held}
 use Rattle.lt_laws.proofs.CarrierLaws.{TailOf, tail_here, tail_next}
-use Rattle.lt_laws.proofs.ConversionLemmas.{are_rising, is_rising}
-use Rattle.lt_laws.proofs.ListFacts.{all_append, all_at, all_both, all_map, contains_front, contains_rest, find_held, flat_held, held_is_found}
+use Rattle.lt_laws.proofs.ListFacts.{all_at, contains_front, contains_rest, flat_held, held_is_found}
 use Rattle.lt_laws.proofs.ScanLemmas.{kind_for}
-use Rattle.lt_model.specs.declared.Rank.TheVariants as rank
+use Rattle.lt_terms.specs.declared.Rank.TheVariants as rank
 
 -- ---- leaves by their path
 

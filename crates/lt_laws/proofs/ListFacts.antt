@@ -1,9 +1,9 @@
 -- Facts about lists that several proofs need: what holds of each element, and what is found.
-pub use Rattle.lt_codecs.proofs.ListFacts.{all_append, all_both, all_front, all_map, all_rest, any_none, find_none, none_mapped}
-use Rattle.std.proofs.Common.{Bool, List, [], ap, arith, cond, false, inl, inr, refl, subst, suc, sym, true, zero, ◌++◌, ◌∙◌, ◌∷◌, ◌≡◌}
-use Rattle.std.specs.Prelude.{Contains, None, Option, Some, filter, filter_map, find, flat_map, map, option_map, ◌||◌, ◌⊎◌}
+use Rattle.std.proofs.Common.{Bool, List, [], ap, arith, false, inl, inr, refl, subst, suc, sym, true, zero, ◌++◌, ◌∙◌, ◌∷◌, ◌≡◌}
+use Rattle.std.specs.Prelude.{Contains, None, Option, Some, filter_map, find, flat_map, map, ◌||◌, ◌⊎◌}
 use Rattle.std.specs.List.{AllByRecursion, cons_option, list_any}
 use Rattle.std.proofs.lemmas.Bool.{false≢true, or_cases}
+pub use Rattle.lt_codecs.proofs.ListFacts.{all_append, all_both, all_front, all_map, all_rest, any_none, find_none, none_mapped}
 
 -- ---- what holds of each
 
@@ -11,10 +11,6 @@ pub all_at : {A : Type 0} (P : A → Type 0) (xs : List A) (x : A) → AllByRecu
 all_at P [] x a (k, l, e) = absurd (omega (arith, l))
 all_at P (y ∷ ys) x a (zero, l, e) = subst P e a.0
 all_at P (y ∷ ys) x a (suc k, l, e) = all_at P ys x a.1 (k, omega (arith, l), e)
-
-pub all_from : {A : Type 0} (P : A → Type 0) (xs : List A) → ((x : A) → Contains xs x → P x) → AllByRecursion P xs
-all_from P [] f = tt
-all_from P (x ∷ xs) f = (f x (zero, omega arith, refl), all_from P xs (λ y (k, l, e). f y (suc k, omega (arith, l), e)))
 
 contains_cons : {A : Type 0} (y : A) (xs : List A) (x : A) → Contains xs x → Contains (y ∷ xs) x
 contains_cons y xs x (k, l, e) = (suc k, omega (arith, l), e)
@@ -37,17 +33,6 @@ pub held_one : {A : Type 0} (x y : A) → Contains (x ∷ []) y → x ≡ y
 held_one x y (zero, l, e) = e
 held_one x y (suc k, l, e) = absurd (omega (arith, l))
 
-pub all_contained : {A : Type 0} (xs : List A) → AllByRecursion (Contains xs) xs
-all_contained xs = all_from (Contains xs) xs (λ x h. h)
-
-filter_by : {A : Type 0} (P : A → Type 0) (x : A) (xs : List A) (b : Bool) → P x → AllByRecursion P xs → AllByRecursion P (cond b (x ∷ xs) xs)
-filter_by P x xs true p a = (p, a)
-filter_by P x xs false p a = a
-
-pub all_filter : {A : Type 0} (P : A → Type 0) (test : A → Bool) (xs : List A) → AllByRecursion P xs → AllByRecursion P (filter test xs)
-all_filter P test [] a = tt
-all_filter P test (x ∷ xs) a = filter_by P x (filter test xs) (test x) a.0 (all_filter P test xs a.1)
-
 pub all_flat : {A : Type 0} (P : A → Type 0) (xss : List (List A)) → AllByRecursion (AllByRecursion P) xss → AllByRecursion P (flat_map (λ xs. xs) xss)
 all_flat P [] a = tt
 all_flat P (xs ∷ xss) a = all_append P xs (flat_map (λ xs. xs) xss) a.0 (all_flat P xss a.1)
@@ -62,26 +47,9 @@ all_of_map P f (x ∷ xs) a = (a.0, all_of_map P f xs a.1)
 
 -- ---- what is found
 
-found_by : {A : Type 0} (P : A → Type 0) (test : A → Bool) (x y : A) (o : Option A) (b : Bool) → test x ≡ b → P x → (o ≡ Some y → P y × (test y ≡ true)) → cond b (Some x) o ≡ Some y → P y × (test y ≡ true)
-found_by P test x y o true e p f h = let d : x ≡ y = cc in subst (λ z. P z × (test z ≡ true)) d (p, e)
-found_by P test x y o false e p f h = f h
-
--- what is found passes the test, and has what all have
-pub find_all : {A : Type 0} (P : A → Type 0) (test : A → Bool) (xs : List A) (y : A) → AllByRecursion P xs → find test xs ≡ Some y → P y × (test y ≡ true)
-find_all P test [] y a h = cc
-find_all P test (x ∷ xs) y a h = found_by P test x y (find test xs) (test x) refl a.0 (find_all P test xs y a.1) h
-
 pub any_mapped : {A B : Type 0} (test : B → Bool) (f : A → B) (xs : List A) → list_any (λ x. test (f x)) xs ≡ list_any test (map f xs)
 any_mapped test f [] = refl
 any_mapped test f (x ∷ xs) = ap (λ (b : Bool). test (f x) || b) (any_mapped test f xs)
-
-given_by : {B : Type 0} (o : Option B) (xs ys : List B) → cons_option o (xs ++ ys) ≡ cons_option o xs ++ ys
-given_by None xs ys = refl
-given_by (Some x) xs ys = refl
-
-pub filter_map-append : {A B : Type 0} (f : A → Option B) (xs ys : List A) → filter_map f (xs ++ ys) ≡ filter_map f xs ++ filter_map f ys
-filter_map-append f [] ys = refl
-filter_map-append f (x ∷ xs) ys = ap (cons_option (f x)) (filter_map-append f xs ys) ∙ given_by (f x) (filter_map f xs) (filter_map f ys)
 
 -- ---- what is in a filtered list
 
@@ -107,14 +75,6 @@ pub in_filter_map : {A B : Type 0} (f : A → Option B) (xs : List A) (x : A) (y
 in_filter_map f [] x y h e = absurd (omega (arith, h.1))
 in_filter_map f (z ∷ xs) x y (zero, l, d) e = given_in (f z) (filter_map f xs) y (inl (ap f d ∙ e))
 in_filter_map f (z ∷ xs) x y (suc k, l, d) e = given_in (f z) (filter_map f xs) y (inr (in_filter_map f xs x y (k, omega (arith, l), d) e))
-
-pub mapped_some : {A B : Type 0} (f : A → B) (o : Option A) (y : B) → option_map f o ≡ Some y → (x : A) × (o ≡ Some x) × (f x ≡ y)
-mapped_some f None y e = cc
-mapped_some f (Some x) y e = (x, refl, cc)
-
--- what is found is an element that passes
-pub find_held : {A : Type 0} (test : A → Bool) (xs : List A) (x : A) → find test xs ≡ Some x → Contains xs x × (test x ≡ true)
-find_held test xs x e = find_all (Contains xs) test xs x (all_contained xs) e
 
 held_by : {A : Type 0} (test : A → Bool) (xs : List A) (x : A) (o : Option A) → find test xs ≡ o → Contains xs x → test x ≡ true → (y : A) × (find test xs ≡ Some y)
 held_by test xs x (Some y) f h e = (y, f)

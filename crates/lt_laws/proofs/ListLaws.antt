@@ -1,21 +1,22 @@
 -- The laws of lists of row versions, all together: the effect of a key's versions, bundles and claims as well.
-use Rattle.std.proofs.Common.{◌≡◌, ℕ, refl, List, [], ◌∷◌, ◌++◌, append_assoc, true, false, sym, ap, subst, ◌∙◌, arith, ltb-true, ltb-false, eqb-true, le-leb}
-use Rattle.std.specs.Prelude.{Bool, ◌&&◌, ◌==◌, IsTrue, None, Option, Some, cond, find, flat_map, length, map, nat_le, nat_lt, not, option_map}
-use Rattle.std.specs.List.{cons_option}
+use Rattle.std.proofs.Common.{List, [], ap, append_assoc, arith, eqb-true, false, le-leb, ltb-false, ltb-true, refl, subst, sym, true, ℕ, ◌++◌, ◌∙◌, ◌∷◌, ◌≡◌}
+use Rattle.std.specs.Prelude.{Bool, IsTrue, None, Option, Some, cond, find, flat_map, length, map, nat_le, nat_lt, not, option_map, ◌&&◌, ◌==◌}
 use Rattle.std.proofs.lemmas.Bool.{lt-leb}
-use Rattle.lt_model.specs.Key.{Range, same_key}
-use Rattle.lt_model.specs.declared.Op.{Op}
-use Rattle.lt_model.specs.declared.Op.TheVariants as ops
-use Rattle.lt_model.specs.Layout.{Cell, Leaf, null_cell, unset}
-use Rattle.lt_model.specs.Sound.{up_to_ts}
-use Rattle.lt_model.specs.Bundle.{bundle_bytes, cut, cut_groups, full_size, grouped, with_group}
+use Rattle.std.specs.List.{cons_option}
 use Rattle.std.specs.Option.{option_map_or}
-use Rattle.lt_model.specs.Claims.{WholeClaims, claimed, whole_claims}
-use Rattle.lt_model.specs.Store.{Delta, carried_versions, delta_with, deltas_of}
-use Rattle.lt_model.specs.Schema.{Catalogue}
-use Rattle.lt_model.specs.Version.{RowVersion, asof, clip, compose, effect_by, effect_of, is_ordered, merge, overlay, put_versions}
-use Rattle.lt_laws.proofs.MergeLaws.{clip-merge, same-back, same-itself, same-key}
+use Rattle.lt_terms.specs.Key.{Range, same_key}
+use Rattle.lt_terms.specs.Layout.{Cell, Leaf, null_cell, unset}
+use Rattle.lt_terms.specs.declared.Op.{Op}
+use Rattle.lt_tables.specs.Version.{RowVersion, asof, clip, compose, effect_by, effect_of, is_ordered, merge, overlay, put_versions}
+use Rattle.lt_tables.specs.Schema.{Catalogue}
+use Rattle.lt_storage.specs.Bundle.{bundle_bytes, cut, cut_groups, full_size, grouped, with_group}
+use Rattle.lt_storage.specs.Store.{Delta, carried_versions, delta_with, deltas_of}
+use Rattle.lt_machine.specs.Sound.{up_to_ts}
+use Rattle.lt_machine.specs.Claims.{WholeClaims, claimed, whole_claims}
+use Rattle.lt_lemmas.proofs.MergeLaws.{same-back, same-itself, same-key}
 use Rattle.lt_laws.proofs.MomentLaws.{asof-rows, laid, laid_by, lay, lay-as, lay-key, of_key, rows_at, without}
+use Rattle.lt_laws.proofs.MergeLaws.{clip-merge}
+use Rattle.lt_terms.specs.declared.Op.TheVariants as ops
 
 -- ---- the effect of a key's versions
 

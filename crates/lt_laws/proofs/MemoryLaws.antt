@@ -1,32 +1,35 @@
 -- What a scan reads: what is stored, and over it what is in memory, are what the source says of the stored and pending names.
 use Rattle.std.proofs.Common.{Bool, List, [], ap, ap₂, arith, cond, eq-eqb, eqb-true, false, ltb-false, refl, subst, sym, true, ℕ, ◌<◌, ◌∙◌, ◌∷◌, ◌≡◌, ◌≤◌}
 use Rattle.std.specs.Prelude.{Contains, IsTrue, None, Option, Some, filter, find, map, nat_lt, not, option_and_then, option_map, zip, ◌==◌}
-use Rattle.std.specs.Option.{option_map_or}
-use Rattle.std.specs.List.{AllByRecursion, cons_option}
 use Rattle.std.proofs.lemmas.Bool.{and_from, and_parts, false≢true, not-false}
-use Rattle.lt_model.specs.Key.{Range, in_range, same_key}
-use Rattle.lt_model.specs.Log.{Change, Header, Item, change_key}
-use Rattle.lt_model.specs.Fair.{Feed}
-use Rattle.lt_model.specs.Machine as machine
-use Rattle.lt_model.specs.Machine.{State, cat_of, first_below, of_query, query_interval, query_of, ranges_of, refused, registered_named, seen_pending, version_asked}
-use Rattle.lt_model.specs.Outside.{BelongsTo, HeldScans, Memory, UnrefusedAsks, held_with, memory_versions, name_of}
-use Rattle.lt_model.specs.Query.{Query}
-use Rattle.lt_model.specs.Reply.{not_safe, too_old, version_retired}
-use Rattle.lt_model.specs.Script.{Command, do_compact, do_deltas, do_flush, do_job_begin, do_job_drop, do_job_finish, do_job_step, do_page, do_pump, do_reopen, do_retain, do_retire, do_scan, do_schema, do_split, do_status}
-use Rattle.lt_model.specs.Row.{is_in_time}
-use Rattle.lt_model.specs.Schema.{Catalogue, Column, Registered, Table, carriers, registered, table_named, when}
-use Rattle.lt_model.specs.Sound.{PendingOf, PendingOfAll, ReadAll, SoundPart, SoundParts, held_versions, passed, source_of}
-use Rattle.lt_model.specs.Store.{Durable, Part, carried_versions, deltas_of, stored}
-use Rattle.lt_model.specs.Version.{RowVersion, asof, clip, is_ordered, merge, put_versions, seen}
-use Rattle.lt_laws.proofs.AnswerLaws.{scan_is_snapshot}
+use Rattle.std.specs.List.{AllByRecursion, cons_option}
+use Rattle.std.specs.Option.{option_map_or}
+use Rattle.lt_terms.specs.Log.{Change, Header, Item, change_key}
+use Rattle.lt_terms.specs.Key.{Range, in_range, same_key}
+use Rattle.lt_world.specs.Feed.{Feed}
+use Rattle.lt_tables.specs.Row.{is_in_time}
+use Rattle.lt_tables.specs.Pump.{Part, name_of}
+use Rattle.lt_tables.specs.Schema.{Catalogue, Column, Registered, Table, carriers, registered, table_named, when}
+use Rattle.lt_tables.specs.Version.{RowVersion, asof, clip, is_ordered, merge, put_versions, seen}
+use Rattle.lt_tables.specs.Query.{Command, Query, do_compact, do_deltas, do_flush, do_job_begin, do_job_drop, do_job_finish, do_job_step, do_page, do_pump, do_reopen, do_retain, do_retire, do_scan, do_schema, do_split, do_status}
+use Rattle.lt_words.specs.Reply.{not_safe, too_old, version_retired}
+use Rattle.lt_storage.specs.Store.{Durable, carried_versions, deltas_of, stored}
+use Rattle.lt_machine.specs.Machine.{State, cat_of, first_below, of_query, query_interval, query_of, ranges_of, registered_named, seen_pending, version_asked}
+use Rattle.lt_machine.specs.Outside.{BelongsTo, HeldScans, UnrefusedAsks, held_with, memory_versions}
+use Rattle.lt_machine.specs.Sound.{Memory, PendingOf, PendingOfAll, ReadAll, SoundPart, SoundParts, held_versions, passed, source_of}
+use Rattle.lt_codecs.proofs.ListFacts.{none_mapped}
+use Rattle.lt_lemmas.proofs.PointLaws.{itself, same}
+use Rattle.lt_lemmas.proofs.ListFacts.{find_held, when_none}
+use Rattle.lt_lemmas.proofs.MergeLaws.{clip-ordered, named, named-key, named-ts}
 use Rattle.lt_laws.proofs.HeldLaws.{once}
-use Rattle.lt_laws.proofs.ListFacts.{find_held, held_is_found, none_mapped}
-use Rattle.lt_laws.proofs.MergeLaws.{clip-ordered, merge-alone, merge-ordered, merge-swap, named, named-key, named-ts}
-use Rattle.lt_laws.proofs.PointLaws.{itself, same, when_none}
-use Rattle.lt_laws.proofs.RangeLaws.{source_in_time}
 use Rattle.lt_laws.proofs.ScanLaws.{held_parts, is_named, part_held, parts_held, seen_from}
+use Rattle.lt_laws.proofs.ListFacts.{held_is_found}
 use Rattle.lt_laws.proofs.ScanLemmas.{found-held, from-filter, seen-key, seen-ts}
+use Rattle.lt_laws.proofs.MergeLaws.{merge-alone, merge-ordered, merge-swap}
+use Rattle.lt_laws.proofs.RangeLaws.{source_in_time}
+use Rattle.lt_laws.proofs.AnswerLaws.{scan_is_snapshot}
 use Rattle.lt_laws.proofs.StepLaws.{unrefused}
+use Rattle.lt_machine.specs.Machine as machine
 
 -- ---- the changes in memory are those that the source has of their names
 

@@ -1,17 +1,19 @@
 -- Reading a list of row versions at a moment, and collapsing it up to one.
-use Rattle.std.proofs.Common.{◌≡◌, ℕ, refl, List, [], ◌∷◌, true, false, sym, inl, inr, ap, subst, ◌∙◌, arith, Ordering, Less, Equal, Greater, lt-ltb, ltb-true, ltb-false, eqb-true, le-ltb, le-leb}
-use Rattle.std.specs.Prelude.{Bool, ◌&&◌, ◌||◌, ◌==◌, ◌<◌, ◌≤◌, ⊤, IsTrue, if◌then◌else◌, cond, filter, map, nat_le, nat_lt, not}
-use Rattle.std.specs.List.{AllByRecursion}
+use Rattle.std.proofs.Common.{Equal, Greater, Less, List, Ordering, [], ap, arith, eqb-true, false, inl, inr, le-leb, le-ltb, lt-ltb, ltb-false, ltb-true, refl, subst, sym, true, ℕ, ◌∙◌, ◌∷◌, ◌≡◌}
+use Rattle.std.specs.Prelude.{Bool, IsTrue, cond, filter, if◌then◌else◌, map, nat_le, nat_lt, not, ⊤, ◌&&◌, ◌<◌, ◌==◌, ◌||◌, ◌≤◌}
 use Rattle.std.specs.Ordering.{is_eq, is_lt}
+use Rattle.std.specs.List.{AllByRecursion}
 use Rattle.std.proofs.lemmas.Bool.{and_parts, lt-leb, or_cases}
-use Rattle.lt_model.specs.Key.{Range, below, bytes_cmp, in_range, same_key}
-use Rattle.lt_model.specs.declared.Op.{Op}
-use Rattle.lt_model.specs.declared.Op.TheVariants as ops
-use Rattle.lt_model.specs.Layout.{Cell}
+use Rattle.lt_terms.specs.Key.{Range, below, bytes_cmp, in_range, same_key}
+use Rattle.lt_terms.specs.declared.Op.{Op}
+use Rattle.lt_terms.specs.Layout.{Cell}
+use Rattle.lt_tables.specs.Version.{RowVersion, asof, clip, collapse, compose, is_insert, is_ordered, merge, onto, overlay, put_version, put_versions, rolled_up, same_name, stands_before}
+use Rattle.lt_lemmas.proofs.MergeLaws.{Above, above-before, above-same, before-not, before-other, filter-above, filter-ordered, ordered-above, ordered-cons, ordered-tail, same-back, same-itself, same-key, same-not-before}
+use Rattle.lt_lemmas.proofs.ClipLaws.{key-less, key-trans}
 use Rattle.lt_laws.proofs.ComposeLemmas.{overlay-assoc}
-use Rattle.lt_model.specs.Version.{RowVersion, asof, clip, collapse, compose, is_insert, is_ordered, merge, onto, overlay, put_version, put_versions, rolled_up, same_name, stands_before}
-use Rattle.lt_laws.proofs.ClipLaws.{filter-swap, key-less, key-trans}
-use Rattle.lt_laws.proofs.MergeLaws.{Above, above-before, above-same, before-not, before-other, filter-above, filter-ordered, merge-alone, merge-ordered, ordered-above, ordered-cons, ordered-tail, puts-ordered, same-back, same-itself, same-key, same-not-before}
+use Rattle.lt_laws.proofs.ClipLaws.{filter-swap}
+use Rattle.lt_laws.proofs.MergeLaws.{merge-alone, merge-ordered, puts-ordered}
+use Rattle.lt_terms.specs.declared.Op.TheVariants as ops
 
 -- ---- reading at a moment keeps order
 

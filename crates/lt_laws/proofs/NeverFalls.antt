@@ -2,20 +2,21 @@
 use Rattle.std.proofs.Common.{Bool, List, ap, arith, false, inl, inr, ltb-false, refl, subst, sym, true, ℕ, ◌∙◌, ◌≡◌, ◌≤◌}
 use Rattle.std.specs.Prelude.{IfSome, IsTrue, None, Option, Some, is_some, nat_lt, unwrap_or, ◌&&◌, ◌⊎◌}
 use Rattle.std.proofs.lemmas.Bool.{false≢true}
-use Rattle.lt_model.specs.Log.{Change}
-use Rattle.lt_model.specs.Fair.{Feed}
-use Rattle.lt_model.specs.Laws.{MinimumNeverFalls}
-use Rattle.lt_model.specs.Machine.{Answer, Does, Job, State, StepBy, cat_of, compacted, flush_id, flushed_lists, job_output, is_broken, is_write, least, output_id, pending_of, refused, resumes, with_delta}
-use Rattle.lt_model.specs.Reply.{Refusal, above_durable, below_minimum, needs_reopen, out_of_memory}
-use Rattle.lt_model.specs.Run.{AfterFault, TakesSome, is_disk_fault}
-use Rattle.lt_model.specs.Schema.{Catalogue, when}
-use Rattle.lt_model.specs.Script.{Command, do_compact, do_deltas, do_flush, do_job_begin, do_job_drop, do_job_finish, do_job_step, do_page, do_pump, do_reopen, do_retain, do_retire, do_scan, do_schema, do_split, do_status}
-use Rattle.lt_model.specs.Sound.{FailedIsLater}
-use Rattle.lt_model.specs.Store.{Durable}
-use Rattle.lt_model.specs.Version.{RowVersion}
-use Rattle.lt_laws.proofs.FaultLaws.{would_do}
-use Rattle.lt_laws.proofs.PointLaws.{or_right, when_none}
+use Rattle.lt_terms.specs.Log.{Change}
+use Rattle.lt_world.specs.Feed.{Feed}
+use Rattle.lt_tables.specs.Schema.{Catalogue, when}
+use Rattle.lt_tables.specs.Version.{RowVersion}
+use Rattle.lt_tables.specs.Query.{Command, do_compact, do_deltas, do_flush, do_job_begin, do_job_drop, do_job_finish, do_job_step, do_page, do_pump, do_reopen, do_retain, do_retire, do_scan, do_schema, do_split, do_status}
+use Rattle.lt_words.specs.Reply.{Refusal, above_durable, below_minimum, needs_reopen, out_of_memory}
+use Rattle.lt_storage.specs.Store.{Durable}
+use Rattle.lt_machine.specs.Machine.{Answer, Does, Job, State, StepBy, cat_of, compacted, flush_id, flushed_lists, is_broken, is_write, job_output, least, output_id, pending_of, refused, resumes, with_delta}
+use Rattle.lt_machine.specs.Sound.{FailedIsLater}
+use Rattle.lt_machine.specs.Run.{AfterFault, TakesSome, is_disk_fault}
+use Rattle.lt_machine.specs.Laws.{MinimumNeverFalls}
+use Rattle.lt_codecs.proofs.ListFacts.{or_right}
+use Rattle.lt_lemmas.proofs.ListFacts.{when_none}
 use Rattle.lt_laws.proofs.StepLaws.{unrefused}
+use Rattle.lt_laws.proofs.FaultLaws.{would_do}
 
 -- the minimum did not fall, and what a failed command would have left has no lesser one
 abbrev Stays : State → State → Type 0

@@ -2,37 +2,39 @@
 use Rattle.std.proofs.Common.{Bool, List, [], ap, arith, cond, eq-eqb, eqb-true, false, le-leb, length, lt-ltb, ltb-true, refl, subst, sym, true, ℕ, ◌<◌, ◌∙◌, ◌∷◌, ◌≡◌}
 use Rattle.std.specs.Prelude.{Contains, IsTrue, Option, Some, filter, map, nat_le, nat_lt, not, option_map, ◌&&◌, ◌==◌, ◌^◌, ◌||◌}
 use Rattle.std.specs.List.{AllByRecursion, list_all, list_any}
-use Rattle.std.specs.Option.{option_map_or}
 use Rattle.std.proofs.lemmas.Bool.{and_from, and_parts}
-use Rattle.lt_model.specs.Value.{is_number, rises_above, rises_strictly}
-use Rattle.lt_model.specs.Kind.{Kind, nesting, rank_number}
-use Rattle.lt_model.specs.Key.{is_key_of, key_bytes}
-use Rattle.lt_model.specs.Layout.{Leaf, layout_of, same_leaf}
-use Rattle.lt_model.specs.Schema.{Catalogue, Column, IsCatalogue, Table, carrier, carriers, column_live, column_numbered, has_column, key_kinds, kinds_given, sets_shape, table_numbered}
-use Rattle.lt_model.specs.Log.{Change, bit}
-use Rattle.lt_model.specs.Version.{AreVersions, RowVersion, is_ordered, is_version, seen}
-use Rattle.lt_model.specs.Store.{AreLawfulTables, IsKeyBytes, IsLawfulTable, IsLayout, TableDelta, is_covered, is_store_kind, leaf_covered}
-use Rattle.lt_model.specs.Machine.{delta_of, flushed_lists, not_empty, seen_pending, table_delta, table_numbers}
-use Rattle.lt_model.specs.Sound.{names_rise}
-use Rattle.lt_laws.proofs.AnswerLaws.{IsSound}
-use Rattle.lt_laws.proofs.CatalogueLaws.{AllPast, NumbersRise, numbers_rise}
-use Rattle.lt_laws.proofs.CutLaws.{cut_lawful}
-use Rattle.lt_laws.proofs.HeldLaws.{rises_tail}
-use Rattle.lt_laws.proofs.LeafLaws.{IsMarked, all_marked, leaf_same}
-use Rattle.lt_laws.proofs.ListFacts.{all_at, all_from, find_held, from_filter_map, from_map, held_is_found, mapped_some}
-use Rattle.lt_laws.proofs.ListLaws.{cut-whole}
-use Rattle.lt_laws.proofs.PumpLaws.{Name}
+use Rattle.std.specs.Option.{option_map_or}
+use Rattle.lt_terms.specs.Value.{is_number, rises_above, rises_strictly}
+use Rattle.lt_terms.specs.Kind.{Kind, nesting, rank_number}
+use Rattle.lt_terms.specs.Layout.{Leaf, layout_of, same_leaf}
+use Rattle.lt_terms.specs.Log.{Change, bit}
+use Rattle.lt_terms.specs.Key.{is_key_of, key_bytes}
+use Rattle.lt_tables.specs.Schema.{Catalogue, Column, IsCatalogue, Table, carrier, carriers, column_live, column_numbered, has_column, key_kinds, kinds_given, sets_shape, table_numbered}
+use Rattle.lt_tables.specs.Version.{AreVersions, RowVersion, is_ordered, is_version, seen}
+use Rattle.lt_tables.specs.Pump.{names_rise}
+use Rattle.lt_storage.specs.Store.{AreLawfulTables, IsKeyBytes, IsLawfulTable, IsLayout, TableDelta, is_covered, is_store_kind, leaf_covered}
+use Rattle.lt_machine.specs.Machine.{delta_of, flushed_lists, not_empty, seen_pending, table_delta, table_numbers}
+use Rattle.lt_lemmas.proofs.StoreKinds.{is_numbered}
+use Rattle.lt_lemmas.proofs.ListFacts.{all_from, find_held, mapped_some}
+use Rattle.lt_lemmas.proofs.TableLaws.{FineColumns, IsFineTable, fine_table, fine_tables}
+use Rattle.lt_lemmas.proofs.CatalogueLaws.{AllPast, NumbersRise, numbers_rise}
+use Rattle.lt_lemmas.proofs.VersionGrowth.{its_number}
+use Rattle.lt_lemmas.proofs.PumpLaws.{Name}
+use Rattle.lt_laws.proofs.ListFacts.{all_at, from_filter_map, from_map, held_is_found}
+use Rattle.lt_laws.proofs.StoreKinds.{store_all}
+use Rattle.lt_laws.proofs.TableGrowth.{are_columns, carrier_has, cols, has_some, leaf_in_cols}
 use Rattle.lt_laws.proofs.ReadLaws.{all_tests, are_fine, live_numbers, or_right, rises_kept}
+use Rattle.lt_laws.proofs.WidenedStore.{known_carriers}
+use Rattle.lt_laws.proofs.LeafLaws.{IsMarked, all_marked, leaf_same}
 use Rattle.lt_laws.proofs.ScanLaws.{any_of, seen_from}
+use Rattle.lt_laws.proofs.HeldLaws.{rises_tail}
+use Rattle.lt_laws.proofs.CutLaws.{cut_lawful}
+use Rattle.lt_laws.proofs.ListLaws.{cut-whole}
+use Rattle.lt_laws.proofs.AnswerLaws.{IsSound}
 use Rattle.lt_laws.proofs.ScanLemmas.{seen-key}
+use Rattle.lt_laws.proofs.WidenedRows.{sound_shape}
 use Rattle.lt_laws.proofs.SeenLaws.{seen_lawful}
 use Rattle.lt_laws.proofs.ShelfGrowth.{made_part, pending_ordered}
-use Rattle.lt_laws.proofs.StoreKinds.{is_numbered, store_all}
-use Rattle.lt_laws.proofs.TableGrowth.{are_columns, carrier_has, cols, has_some, leaf_in_cols}
-use Rattle.lt_laws.proofs.TableLaws.{FineColumns, IsFineTable, fine_table, fine_tables}
-use Rattle.lt_laws.proofs.VersionGrowth.{its_number}
-use Rattle.lt_laws.proofs.WidenedRows.{sound_shape}
-use Rattle.lt_laws.proofs.WidenedStore.{known_carriers}
 
 -- ---- the carriers are a layout, and cover themselves
 

@@ -1,27 +1,28 @@
 -- An image holds one durable part: the slot that counts names one manifest, it names the indexes, and they the bundles, and the bytes of
 -- each are those of one.
-use Rattle.std.proofs.Common.{Bool, List, [], ap, ap₂, arith, eqb-true, drop, false, length, ltb-true, refl, subst, sym, true, ℕ, ◌-◌, ◌++◌, ◌<◌, ◌∙◌, ◌∷◌, ◌≡◌}
+use Rattle.std.proofs.Common.{Bool, List, [], ap, ap₂, arith, drop, eqb-true, false, length, ltb-true, refl, subst, sym, true, ℕ, ◌++◌, ◌-◌, ◌<◌, ◌∙◌, ◌∷◌, ◌≡◌}
 use Rattle.std.specs.Prelude.{IsTrue, Some, codes, nat_le, nat_lt, not, ◌&&◌, ◌==◌, ◌^◌}
 use Rattle.std.specs.Int.{w64}
-use Rattle.std.specs.List.{AllByRecursion, list_all}
 use Rattle.std.proofs.lemmas.Bool.{and_parts, eqb-false}
 use Rattle.std.proofs.lemmas.List.{append_cancel_left, length-append, length-replicate, length-take}
-use Rattle.lt_model.specs.declared.Extent.{Extent}
-use Rattle.lt_model.specs.declared.Root.{Root}
-use Rattle.lt_model.specs.Key.{below, max_key}
-use Rattle.lt_model.specs.Layout.{Leaf}
-use Rattle.lt_model.specs.Schema.{Catalogue, Table, table_numbered}
-use Rattle.lt_model.specs.Log.{u64}
-use Rattle.lt_model.specs.Version.{RowVersion}
-use Rattle.lt_model.specs.Disk.{bytes_at, bytes_in, zeros}
-use Rattle.lt_model.specs.Store.{BundleEntry, CountsAsRoot, Delta, Durable, HasBundles, HasDeltas, HasTables, HoldsOne, IsIndex, IsSlot, IsTableIndex, Manifest, TableDelta, TableIndex, durable_of, entries_rise, entry_extent, is_entry, is_open, is_root, manifest_bytes, root_extent, slot_body, slot_place}
+use Rattle.std.specs.List.{AllByRecursion, list_all}
+use Rattle.lt_terms.specs.Log.{u64}
+use Rattle.lt_terms.specs.declared.Root.{Root}
+use Rattle.lt_terms.specs.declared.Extent.{Extent}
+use Rattle.lt_terms.specs.Key.{below, max_key}
+use Rattle.lt_terms.specs.Layout.{Leaf}
+use Rattle.lt_world.specs.Slots.{CountsAsRoot, IsSlot, is_open, is_root, slot_body, slot_place}
+use Rattle.lt_world.specs.Disk.{bytes_at, bytes_in, zeros}
+use Rattle.lt_tables.specs.Schema.{Catalogue, Table, table_numbered}
+use Rattle.lt_tables.specs.Version.{RowVersion}
+use Rattle.lt_storage.specs.Store.{BundleEntry, Delta, Durable, HasBundles, HasDeltas, HasTables, HoldsOne, IsIndex, IsTableIndex, Manifest, TableDelta, TableIndex, durable_of, entries_rise, entry_extent, is_entry, manifest_bytes, root_extent}
 use Rattle.lt_codecs.specs.Codec.{number}
-use Rattle.lt_codecs.proofs.BundleLaws as bundles
-use Rattle.lt_codecs.proofs.IndexLaws as indexes
-use Rattle.lt_codecs.proofs.ManifestLaws as manifests
 use Rattle.lt_codecs.proofs.Codecs.{number_is, spell_apart, wide64}
 use Rattle.lt_laws.proofs.LawfulImages.{generation_fits}
 use Rattle.lt_laws.proofs.ReadLaws.{all_tests}
+use Rattle.lt_store_codecs.proofs.BundleLaws as bundles
+use Rattle.lt_store_codecs.proofs.IndexLaws as indexes
+use Rattle.lt_store_codecs.proofs.ManifestLaws as manifests
 
 -- ---- the slot that counts
 

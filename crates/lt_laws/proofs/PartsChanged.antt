@@ -1,36 +1,22 @@
 -- Partitions of which one is changed in place: their ranges, and what holds of each.
-use Rattle.std.proofs.Common.{Bool, List, [], ap, inl, inr, length, refl, subst, suc, true, zero, ℕ, ◌∙◌, ◌∷◌, ◌≡◌}
+use Rattle.std.proofs.Common.{Bool, List, [], ap, inl, inr, refl, subst, suc, true, zero, ℕ, ◌∙◌, ◌∷◌, ◌≡◌}
 use Rattle.std.specs.Prelude.{Some, slice_get, unwrap_or}
 use Rattle.std.specs.List.{AllByRecursion, list_any}
 use Rattle.std.proofs.lemmas.Bool.{or_cases}
-use Rattle.lt_model.specs.Key.{Range, ranges_from}
-use Rattle.lt_model.specs.Schema.{Catalogue, change_at}
-use Rattle.lt_model.specs.Log.{Change}
-use Rattle.lt_model.specs.Store.{Durable, Part, part_ranges}
-use Rattle.lt_model.specs.Sound.{PendingOf, PendingOfAll}
-use Rattle.lt_laws.proofs.ListFacts.{all_map}
-use Rattle.lt_laws.proofs.ReadLaws.{or_left, or_right}
+use Rattle.lt_terms.specs.Key.{Range, ranges_from}
+use Rattle.lt_terms.specs.Log.{Change}
+use Rattle.lt_tables.specs.Schema.{Catalogue, change_at}
+use Rattle.lt_tables.specs.Pump.{Part}
+use Rattle.lt_storage.specs.Store.{Durable, part_ranges}
+use Rattle.lt_machine.specs.Sound.{PendingOf, PendingOfAll}
+use Rattle.lt_codecs.proofs.ListFacts.{all_map}
 use Rattle.lt_laws.proofs.SplitLaws.{Each, each_as, lows_of}
-
-pub change_twice : {A : Type 0} (f g : A → A) (n : ℕ) (xs : List A) → change_at f n (change_at g n xs) ≡ change_at (λ x. f (g x)) n xs
-change_twice f g n [] = refl
-change_twice f g zero (x ∷ xs) = refl
-change_twice f g (suc n) (x ∷ xs) = ap (λ l. x ∷ l) (change_twice f g n xs)
+use Rattle.lt_laws.proofs.ReadLaws.{or_left, or_right}
 
 pub change_none : {A : Type 0} (n : ℕ) (xs : List A) → change_at (λ x. x) n xs ≡ xs
 change_none n [] = refl
 change_none zero (x ∷ xs) = refl
 change_none (suc n) (x ∷ xs) = ap (λ l. x ∷ l) (change_none n xs)
-
-pub length_changed : {A : Type 0} (f : A → A) (n : ℕ) (xs : List A) → length (change_at f n xs) ≡ length xs
-length_changed f n [] = refl
-length_changed f zero (x ∷ xs) = refl
-length_changed f (suc n) (x ∷ xs) = ap suc (length_changed f n xs)
-
-pub changed_there : {A : Type 0} (f : A → A) (n : ℕ) (xs : List A) (x : A) → slice_get xs n ≡ Some x → slice_get (change_at f n xs) n ≡ Some (f x)
-changed_there f n [] x e = cc
-changed_there f zero (y ∷ xs) x e = let d : y ≡ x = cc in ap (λ z. Some (f z)) d
-changed_there f (suc n) (y ∷ xs) x e = changed_there f n xs x e
 
 -- each has the low bound that it had
 abbrev pub KeepsLow : (Part → Part) → Type 0

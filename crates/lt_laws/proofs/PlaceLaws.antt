@@ -1,20 +1,22 @@
 -- A place of a stream is within its bytes, and the point that is kept there is lawful but for the size of its window.
-use Rattle.std.proofs.Common.{Bool, List, [], ap, arith, cond, drop, eqb-true, false, length, lt-ltb, ltb-true, refl, subst, suc, sym, take, true, zero, ℕ, ◌+◌, ◌++◌, ◌<◌, ◌∙◌, ◌∷◌, ◌≡◌}
+use Rattle.std.proofs.Common.{Bool, List, [], ap, arith, cond, drop, eqb-true, false, length, lt-ltb, ltb-true, refl, subst, suc, sym, take, true, zero, ℕ, ◌++◌, ◌+◌, ◌<◌, ◌∙◌, ◌∷◌, ◌≡◌}
 use Rattle.std.specs.Prelude.{IsTrue, flat_map, fold, is_some, map, max, nat_le, nat_lt, slice_get, unwrap_or, ◌&&◌, ◌==◌, ◌^◌}
-use Rattle.std.specs.List.{AllByRecursion}
 use Rattle.std.proofs.lemmas.Bool.{and_from, and_parts}
+use Rattle.std.specs.List.{AllByRecursion}
 use Rattle.std.proofs.lemmas.List.{length-append, take-append-drop}
-use Rattle.lt_model.specs.declared.Format.{Format}
-use Rattle.lt_model.specs.Key.{below, max_key, rise, same_key}
-use Rattle.lt_model.specs.Schema.{Catalogue}
-use Rattle.lt_model.specs.Log.{Change, Header, Item, batch_item, change_item, change_key, changes_of, checkpoint_item, close_item, header_item, is_change, is_item, spelled}
-use Rattle.lt_model.specs.Fair.{AreShort, Feed, HasHeader, IsPrefix, checkpoint_of, greatest_of, header_length, is_fair, last_checkpoint, place_after, point_of, put_key, stream_bytes, window_above}
-use Rattle.lt_model.specs.Store.{fits_63, is_point}
+use Rattle.lt_terms.specs.Key.{below, max_key, rise, same_key}
+use Rattle.lt_terms.specs.Log.{Change, Header, Item, batch_item, change_item, change_key, changes_of, checkpoint_item, close_item, header_item, is_change, is_item, spelled}
+use Rattle.lt_terms.specs.declared.Format.{Format}
+use Rattle.lt_world.specs.Feed.{AreShort, Feed, stream_bytes}
+use Rattle.lt_tables.specs.Fair.{HasHeader, IsPrefix, checkpoint_of, greatest_of, header_length, is_fair, last_checkpoint, place_after, point_of, put_key, window_above}
+use Rattle.lt_tables.specs.Schema.{Catalogue}
+use Rattle.lt_storage.specs.Store.{fits_63, is_point}
+use Rattle.lt_codecs.proofs.ListFacts.{all_front}
+use Rattle.lt_lemmas.proofs.TakenLaws.{left, right, spelled_length}
+use Rattle.lt_lemmas.proofs.PointLaws.{Ordered, fair_windows}
 use Rattle.lt_laws.proofs.FrontLaws.{fair_front}
-use Rattle.lt_laws.proofs.ListFacts.{all_front}
 use Rattle.lt_laws.proofs.NewDelta.{tests_hold}
-use Rattle.lt_laws.proofs.PointLaws.{Ordered, fair_windows}
-use Rattle.lt_laws.proofs.TakenLaws.{lawful_changes, left, right, spelled_length}
+use Rattle.lt_laws.proofs.TakenLaws.{lawful_changes}
 
 -- ---- what a window holds
 

@@ -1,24 +1,27 @@
 -- The restart points that a flush leaves: places of the fronts, by rising offset, each lawful.
-use Rattle.std.proofs.Common.{Bool, List, [], ap, append-nil, arith, cond, false, le-leb, leb-true, length, lt-ltb, ltb-true, refl, subst, suc, sym, true, ℕ, ◌+◌, ◌++◌, ◌<◌, ◌∙◌, ◌∷◌, ◌≡◌, ◌≤◌}
+use Rattle.std.proofs.Common.{Bool, List, [], ap, append-nil, arith, cond, false, le-leb, leb-true, length, lt-ltb, ltb-true, refl, subst, suc, sym, true, ℕ, ◌++◌, ◌+◌, ◌<◌, ◌∙◌, ◌∷◌, ◌≡◌, ◌≤◌}
 use Rattle.std.specs.Prelude.{IsTrue, None, Option, Some, filter, map, nat_le, nat_lt, not, ◌&&◌, ◌^◌}
 use Rattle.std.specs.List.{AllByRecursion, list_all}
 use Rattle.std.specs.Option.{option_map_or}
 use Rattle.std.proofs.lemmas.Bool.{and_from, and_parts}
 use Rattle.std.proofs.lemmas.List.{length-append, map-append}
-use Rattle.lt_model.specs.Value.{rises_above, rises_strictly}
-use Rattle.lt_model.specs.Key.{max_key}
-use Rattle.lt_model.specs.Schema.{Catalogue}
-use Rattle.lt_model.specs.Log.{Header, Item}
-use Rattle.lt_model.specs.Fair.{AreShort, Feed, Point, header_length}
-use Rattle.lt_model.specs.Store.{Part, Stream, is_point, is_stream_entry}
-use Rattle.lt_model.specs.Machine.{StreamAt, from_offset, last_of, may_add, points_after, points_kept, streams_after, usable_point}
-use Rattle.lt_model.specs.Sound.{AreAtPlaces, FrontsFrom, IsPlace, SoundPoints}
-use Rattle.lt_laws.proofs.AddedSession.{rises_push}
+use Rattle.lt_terms.specs.Value.{rises_above, rises_strictly}
+use Rattle.lt_terms.specs.Key.{max_key}
+use Rattle.lt_terms.specs.Log.{Header, Item}
+use Rattle.lt_world.specs.Feed.{AreShort, Feed}
+use Rattle.lt_tables.specs.Fair.{Point, header_length}
+use Rattle.lt_tables.specs.Pump.{Part, StreamAt, last_of}
+use Rattle.lt_tables.specs.Schema.{Catalogue}
+use Rattle.lt_storage.specs.Store.{Stream, is_point, is_stream_entry}
+use Rattle.lt_machine.specs.Machine.{from_offset, may_add, points_after, points_kept, streams_after, usable_point}
+use Rattle.lt_machine.specs.Sound.{AreAtPlaces, FrontsFrom, IsPlace, SoundPoints}
+use Rattle.lt_codecs.proofs.ListFacts.{all_append}
+use Rattle.lt_lemmas.proofs.ListFacts.{all_filter}
 use Rattle.lt_laws.proofs.HeldLaws.{rises_tail}
-use Rattle.lt_laws.proofs.ListFacts.{all_append, all_filter}
+use Rattle.lt_laws.proofs.ReadLaws.{all_tests, rises_kept}
+use Rattle.lt_laws.proofs.AddedSession.{rises_push}
 use Rattle.lt_laws.proofs.NewDelta.{tests_hold}
 use Rattle.lt_laws.proofs.PlaceLaws.{place_point, place_within}
-use Rattle.lt_laws.proofs.ReadLaws.{all_tests, rises_kept}
 
 abbrev Place : Type 0
 Place = ℕ × Point

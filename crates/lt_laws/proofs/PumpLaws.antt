@@ -1,43 +1,33 @@
 -- A pump keeps a good session: its stream stands behind what it took, and what it took is pending where it is not durable.
-use Rattle.std.proofs.Common.{Bool, List, [], ap, ap₂, append-nil, append_assoc, arith, cond, drop, eq-eqb, eqb-true, false, inl, inr, length, lt-ltb, ltb-true, ne_eqb, refl, subst, suc, sym, take, true, zero, ℕ, ◌+◌, ◌++◌, ◌<◌, ◌∙◌, ◌∷◌, ◌≡◌, ◌≤◌}
+use Rattle.std.proofs.Common.{Bool, List, [], ap, append-nil, append_assoc, ap₂, arith, cond, drop, eq-eqb, eqb-true, false, inl, inr, length, lt-ltb, ltb-true, ne_eqb, refl, subst, suc, sym, take, true, zero, ℕ, ◌++◌, ◌+◌, ◌<◌, ◌∙◌, ◌∷◌, ◌≡◌, ◌≤◌}
 use Rattle.std.specs.Prelude.{Contains, IsTrue, Some, find, if◌then◌else◌, map, nat_lt, ◌&&◌, ◌==◌, ◌⊎◌}
-use Rattle.std.specs.List.{AllByRecursion}
 use Rattle.std.proofs.lemmas.Bool.{and_from, and_parts, false≢true}
-use Rattle.std.proofs.lemmas.List.{take-append-drop, take_at, length-append, length-take}
-use Rattle.lt_model.specs.Key.{Range, in_range, same_key}
-use Rattle.lt_model.specs.Schema.{Catalogue}
-use Rattle.lt_model.specs.Log.{Change, Header, Item, batch_item, change_item, change_key, changes_of, checkpoint_item, close_item, header_item, is_item, is_read}
-use Rattle.lt_model.specs.Fair.{Feed, IsPrefix, Point, header_length, is_closed, is_fair, place_after, point_of}
-use Rattle.lt_model.specs.Store.{Durable, Part}
-use Rattle.lt_model.specs.Version.{RowVersion, is_ordered, same_name, stands_before}
-use Rattle.lt_model.specs.Machine as machine
-use Rattle.lt_model.specs.Machine.{Pumps, State, StreamAt, Takes, all_delivered, cat_of, delivered, entering, moved_by, put_name, ranges_of, stream_at, with_items, with_streams}
-use Rattle.lt_model.specs.Sound.{AreAtPlaces, FrontsFrom, IsGood, PendingOf, PendingOfAll, Stands, items_before, names_rise, passed}
-use Rattle.lt_laws.proofs.FrontLaws.{fair_front}
+use Rattle.std.proofs.lemmas.List.{length-append, length-take, take-append-drop, take_at}
+use Rattle.std.specs.List.{AllByRecursion}
+use Rattle.lt_terms.specs.Key.{Range, in_range, same_key}
+use Rattle.lt_terms.specs.Log.{Change, Header, Item, batch_item, change_item, change_key, changes_of, checkpoint_item, close_item, header_item, is_item, is_read}
+use Rattle.lt_terms.specs.declared.Format.{Format}
+use Rattle.lt_world.specs.Feed.{Feed}
+use Rattle.lt_tables.specs.Version.{is_ordered, same_name, stands_before}
+use Rattle.lt_tables.specs.Pump.{Part, StreamAt, Takes, all_delivered, delivered, moved_by, names_rise, put_name}
+use Rattle.lt_tables.specs.Schema.{Catalogue}
+use Rattle.lt_tables.specs.Fair.{IsPrefix, Point, header_length, is_closed, is_fair, place_after, point_of}
+use Rattle.lt_tables.specs.Query.{do_pump}
+use Rattle.lt_storage.specs.Store.{Durable}
+use Rattle.lt_machine.specs.Sound.{AreAtPlaces, FrontsFrom, IsGood, PendingOf, PendingOfAll, Stands, items_before, passed}
+use Rattle.lt_machine.specs.Machine.{State, cat_of, entering, ranges_of, stream_at, with_items, with_streams}
+use Rattle.lt_lemmas.proofs.PumpLaws.{Name, as_version, as_versions}
+use Rattle.lt_lemmas.proofs.MergeLaws.{Above, before-other, ordered-above, ordered-cons, ordered-tail}
+use Rattle.lt_lemmas.proofs.PointLaws.{changes_of-append, itself, same}
 use Rattle.lt_laws.proofs.ListFacts.{contains_front, contains_rest}
-use Rattle.lt_laws.proofs.MergeLaws.{Above, before-other, ordered-above, ordered-cons, ordered-tail}
-use Rattle.lt_laws.proofs.PointLaws.{changes_of-append, itself, same}
+use Rattle.lt_laws.proofs.TakenLaws.{are_taken, moved_behind, stream_behind, taken_goes_on}
+use Rattle.lt_laws.proofs.FrontLaws.{fair_front}
 use Rattle.lt_laws.proofs.SoundLaws.{before-take}
 use Rattle.lt_laws.proofs.StepLaws.{KeepsDoing}
-use Rattle.lt_model.specs.Script.{do_pump}
-use Rattle.lt_laws.proofs.TakenLaws.{are_taken, moved_behind, stream_behind, taken_goes_on}
-use Rattle.lt_model.specs.declared.Format.{Format}
-use Rattle.lt_model.specs.declared.Format.TheVariants as format
-use Rattle.lt_model.specs.declared.Op.TheVariants as ops
+use Rattle.lt_terms.specs.declared.Format.TheVariants as format
+use Rattle.lt_machine.specs.Machine as machine
 
 -- ---- names, by rising key and falling timestamp
-
-abbrev pub Name : Type 0
-Name = List ℕ × ℕ
-
--- a name stands as a version of it would
-abbrev pub as_version : Name → RowVersion
-as_version n = record { key = n.0; ts = n.1; op = ops.Delete; cells = [] }
-
-pub as_versions : (ns : List Name) → names_rise ns ≡ is_ordered (map as_version ns)
-as_versions [] = refl
-as_versions (a ∷ []) = refl
-as_versions (a ∷ b ∷ ns) = ap (λ (x : Bool). stands_before (as_version a) (as_version b) && x) (as_versions (b ∷ ns))
 
 above_name_by : (a n m : Name) (ms : List Name) (b c : Bool) → IsTrue (stands_before (as_version a) (as_version n)) → Above (as_version a) (map as_version (m ∷ ms)) → Above (as_version a) (map as_version (put_name n ms))
     → Above (as_version a) (map as_version (cond b (n ∷ m ∷ ms) (cond c (m ∷ ms) (m ∷ put_name n ms))))

@@ -1,25 +1,29 @@
 -- What fair changes set reads back from the cells: under a lawful catalogue a live version reads a row's cells as the row.
-use Rattle.std.proofs.Common.{Bool, List, [], ap, arith, cond, eq-eqb, eqb-true, false, length, lt-ltb, ltb-false, ltb-true, ne_eqb, refl, subst, suc, sym, true, zero, ℕ, ◌<◌, ◌∙◌, ◌∷◌, ◌≡◌, ◌≤◌, le-leb}
+use Rattle.std.proofs.Common.{Bool, List, [], ap, arith, cond, eq-eqb, eqb-true, false, le-leb, length, lt-ltb, ltb-false, ltb-true, ne_eqb, refl, subst, suc, sym, true, zero, ℕ, ◌<◌, ◌∙◌, ◌∷◌, ◌≡◌, ◌≤◌}
 use Rattle.std.specs.Prelude.{Contains, IsTrue, None, Option, Some, filter, flat_map, fold, is_some, map, nat_le, nat_lt, not, option_and_then, option_map, slice_get, ⊤, ◌&&◌, ◌==◌, ◌||◌}
+use Rattle.std.proofs.lemmas.Bool.{and_from, and_parts, eqb-false, false≢true}
 use Rattle.std.specs.List.{AllByRecursion, cons_option, list_all, list_any}
 use Rattle.std.specs.Option.{option_map_or}
-use Rattle.std.proofs.lemmas.Bool.{and_from, and_parts, eqb-false, false≢true}
-use Rattle.lt_model.specs.declared.Op.{Op}
-use Rattle.lt_model.specs.Value.{Value, is_number, rises_above}
-use Rattle.lt_model.specs.Kind.{Kind, has_shape, nesting}
-use Rattle.lt_model.specs.Schema.{Catalogue, Column, IsCatalogue, Registered, Table, carrier, carriers, carriers_of, column_live, column_numbered, column_numbers, has_column, put_number, registered, sets_shape, shapes_of, table_numbered}
-use Rattle.lt_model.specs.Log.{Change, Header, is_change, is_log_value}
-use Rattle.lt_model.specs.Fair.{has_change_shape}
-use Rattle.lt_model.specs.Layout.{flatten}
-use Rattle.lt_model.specs.Row.{Row, after_change, read_row, row_by}
-use Rattle.lt_model.specs.Version.{carried, read_cells}
-use Rattle.lt_laws.proofs.CarrierLaws.{shape_within}
-use Rattle.lt_laws.proofs.ConversionLemmas.{is_rising}
-use Rattle.lt_laws.proofs.ListFacts.{all_append, all_at, all_both, all_from, all_map, all_of_map, contains_front, contains_rest, find_all}
+use Rattle.lt_terms.specs.Value.{Value, is_number, rises_above}
+use Rattle.lt_terms.specs.Kind.{Kind, has_shape, nesting}
+use Rattle.lt_terms.specs.declared.Op.{Op}
+use Rattle.lt_terms.specs.Log.{Change, Header, is_change, is_log_value}
+use Rattle.lt_terms.specs.Layout.{flatten}
+use Rattle.lt_tables.specs.Schema.{Catalogue, Column, IsCatalogue, Registered, Table, carrier, carriers, carriers_of, column_live, column_numbered, column_numbers, has_column, put_number, registered, sets_shape, shapes_of, table_numbered}
+use Rattle.lt_tables.specs.Fair.{has_change_shape}
+use Rattle.lt_tables.specs.Row.{Row, after_change, read_row, row_by}
+use Rattle.lt_tables.specs.Version.{carried, read_cells}
+use Rattle.lt_codecs.proofs.ListFacts.{all_append, all_both, all_map}
+use Rattle.lt_lemmas.proofs.TableLaws.{FineColumns, IsFineKind, IsFineTable, fine_table}
+use Rattle.lt_lemmas.proofs.ConversionLemmas.{is_rising}
+use Rattle.lt_lemmas.proofs.ListFacts.{all_from, find_all}
+use Rattle.lt_lemmas.proofs.TakenLaws.{left, right}
+use Rattle.lt_laws.proofs.ListFacts.{all_at, all_of_map, contains_front, contains_rest}
+use Rattle.lt_laws.proofs.TableLaws.{carrier_carries, carrier_stands, carrier_takes}
 use Rattle.lt_laws.proofs.ScanLemmas.{AreFine, IsCarried, IsWithin, kind_for, read-carried}
-use Rattle.lt_laws.proofs.TableLaws.{FineColumns, IsFineKind, IsFineTable, carrier_carries, carrier_stands, carrier_takes, fine_table}
-use Rattle.lt_laws.proofs.TakenLaws.{Passes, change_shaped, left, right}
-use Rattle.lt_model.specs.declared.Op.TheVariants as ops
+use Rattle.lt_laws.proofs.CarrierLaws.{shape_within}
+use Rattle.lt_laws.proofs.TakenLaws.{Passes, change_shaped}
+use Rattle.lt_terms.specs.declared.Op.TheVariants as ops
 
 -- ---- numbers that rise
 

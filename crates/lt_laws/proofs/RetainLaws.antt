@@ -1,33 +1,37 @@
 -- A retention keeps a good session: from a later minimum on the stored versions of a key make its row all the same.
-use Rattle.std.proofs.Common.{Bool, List, [], ap, append-nil, arith, cond, drop, false, le-leb, length, lt-ltb, ltb-false, ltb-true, refl, subst, sym, take, true, ℕ, ◌+◌, ◌++◌, ◌<◌, ◌∙◌, ◌∷◌, ◌≡◌, ◌≤◌}
+use Rattle.std.proofs.Common.{Bool, List, [], ap, append-nil, arith, cond, drop, false, le-leb, length, lt-ltb, ltb-false, ltb-true, refl, subst, sym, take, true, ℕ, ◌++◌, ◌+◌, ◌<◌, ◌∙◌, ◌∷◌, ◌≡◌, ◌≤◌}
 use Rattle.std.specs.Prelude.{Contains, IsTrue, Some, map, nat_le, nat_lt, ◌&&◌, ◌==◌, ◌^◌}
+use Rattle.std.proofs.lemmas.List.{take-append-drop}
 use Rattle.std.specs.List.{AllByRecursion, list_all, list_any}
 use Rattle.std.proofs.lemmas.Bool.{and_from, and_parts, false≢true}
-use Rattle.lt_model.specs.Value.{rises_strictly}
-use Rattle.lt_model.specs.Key.{Range, in_range, max_key, same_key, tile}
-use Rattle.lt_model.specs.Schema.{IsCatalogue, Table, table_numbered, when}
-use Rattle.lt_model.specs.Log.{Change, Header, Item, change_key, u32}
-use Rattle.lt_model.specs.Fair.{Feed, changes_to}
-use Rattle.lt_model.specs.Script.{do_retain}
-use Rattle.lt_model.specs.Bundle.{has_table}
-use Rattle.lt_model.specs.Machine.{Job, State, cat_of, least, ranges_of, resumes}
-use Rattle.lt_model.specs.Reply.{above_durable, below_minimum}
-use Rattle.lt_model.specs.Store.{Durable, IsLawfulManifest, Manifest, Part, bare_manifest, carried_versions, deltas_of, fits_63, is_part_entry, stored}
-use Rattle.lt_model.specs.Sound.{Fronts, IsGood, JobBegan, JobStands, SoundPart, SoundParts, passed, row_cells, source_of, up_to_ts}
-use Rattle.lt_model.specs.Version.{effect_of, merge, seen}
-use Rattle.lt_laws.proofs.PointLaws.{or_left, same, or_right, when_none}
-use Rattle.lt_laws.proofs.RangeLaws.{source_in_time}
-use Rattle.lt_laws.proofs.ScanLemmas.{AreOf, between-seen, row-held}
-use Rattle.lt_laws.proofs.ScanLaws.{of_at}
-use Rattle.lt_laws.proofs.TakenLaws.{number_fits, source_keyed}
-use Rattle.lt_laws.proofs.TableLaws.{fine_table}
-use Rattle.lt_laws.proofs.ListFacts.{all_map}
-use Rattle.lt_laws.proofs.MergeLaws.{clip-ordered, merge-ordered}
-use Rattle.lt_laws.proofs.ConversionLemmas.{same_bytes-same}
+use Rattle.lt_terms.specs.Log.{Change, Header, Item, change_key, u32}
+use Rattle.lt_terms.specs.Key.{Range, in_range, max_key, same_key, tile}
+use Rattle.lt_terms.specs.Value.{rises_strictly}
+use Rattle.lt_world.specs.Feed.{Feed}
+use Rattle.lt_tables.specs.Fair.{changes_to}
+use Rattle.lt_tables.specs.Schema.{IsCatalogue, Table, table_numbered, when}
+use Rattle.lt_tables.specs.Pump.{Part}
+use Rattle.lt_tables.specs.Version.{effect_of, merge, seen}
+use Rattle.lt_tables.specs.Row.{IsKeyed, row_at}
+use Rattle.lt_tables.specs.Query.{do_retain}
+use Rattle.lt_words.specs.Reply.{above_durable, below_minimum}
+use Rattle.lt_storage.specs.Store.{Durable, IsLawfulManifest, Manifest, bare_manifest, carried_versions, deltas_of, fits_63, is_part_entry, stored}
+use Rattle.lt_storage.specs.Bundle.{has_table}
+use Rattle.lt_machine.specs.Sound.{Fronts, IsGood, JobBegan, JobStands, SoundPart, SoundParts, passed, row_cells, source_of, up_to_ts}
+use Rattle.lt_machine.specs.Machine.{Job, State, cat_of, least, ranges_of, resumes}
 use Rattle.lt_codecs.proofs.KeyLaws.{one_table}
-use Rattle.lt_model.specs.Row.{row_at}
-use Rattle.lt_model.specs.Laws.{IsKeyed}
-use Rattle.std.proofs.lemmas.List.{take-append-drop}
+use Rattle.lt_codecs.proofs.ListFacts.{all_map, or_left, or_right}
+use Rattle.lt_lemmas.proofs.ConversionLemmas.{same_bytes-same}
+use Rattle.lt_lemmas.proofs.PointLaws.{same}
+use Rattle.lt_lemmas.proofs.TakenLaws.{number_fits}
+use Rattle.lt_lemmas.proofs.TableLaws.{fine_table}
+use Rattle.lt_lemmas.proofs.MergeLaws.{clip-ordered}
+use Rattle.lt_lemmas.proofs.ListFacts.{when_none}
+use Rattle.lt_laws.proofs.ScanLemmas.{AreOf, between-seen, row-held}
+use Rattle.lt_laws.proofs.RangeLaws.{source_in_time}
+use Rattle.lt_laws.proofs.ScanLaws.{of_at}
+use Rattle.lt_laws.proofs.TakenLaws.{source_keyed}
+use Rattle.lt_laws.proofs.MergeLaws.{merge-ordered}
 use Rattle.lt_laws.proofs.SoundLaws.{least-all}
 use Rattle.lt_laws.proofs.StepLaws.{KeepsDoing, all_pending_as, if_some, next_generation, unrefused}
 

@@ -1,32 +1,39 @@
 -- A good session holds, of each key in a safe interval, what its changes make: the partition's stored versions and the pending ones over them.
-use Rattle.std.proofs.Common.{Bool, List, [], ap, arith, cond, drop, eq-eqb, eqb-true, false, inl, inr, refl, subst, suc, sym, take, true, zero, ℕ, ◌+◌, ◌++◌, ◌<◌, ◌∙◌, ◌∷◌, ◌≡◌, ◌≤◌}
+use Rattle.std.proofs.Common.{Bool, List, [], ap, arith, cond, drop, eq-eqb, eqb-true, false, inl, inr, refl, subst, suc, sym, take, true, zero, ℕ, ◌++◌, ◌+◌, ◌<◌, ◌∙◌, ◌∷◌, ◌≡◌, ◌≤◌}
 use Rattle.std.specs.Prelude.{Contains, IsTrue, None, Option, Some, find, map, max, nat_le, nat_lt, not, option_map, slice_get, unwrap_or, zip, ◌&&◌, ◌==◌}
-use Rattle.std.specs.List.{AllByRecursion, list_any}
 use Rattle.std.specs.Option.{option_or}
+use Rattle.std.specs.List.{AllByRecursion, list_any}
 use Rattle.std.proofs.lemmas.Bool.{and_from, and_parts, false≢true}
 use Rattle.std.proofs.lemmas.List.{take-append-drop}
-use Rattle.lt_model.specs.Key.{Range, in_range, meets, same_key, tile}
-use Rattle.lt_model.specs.Schema.{Catalogue, Table, first_of, table_numbered}
-use Rattle.lt_model.specs.Log.{Change, Header, Item, change_key, changes_of}
-use Rattle.lt_model.specs.Fair.{Feed, changes_to, checkpoint_of, header_length, is_fair}
-use Rattle.lt_model.specs.Row.{is_in_time, row_at}
-use Rattle.lt_model.specs.Version.{RowVersion, asof, clip, merge, put_versions, seen}
-use Rattle.lt_model.specs.Machine as machine
-use Rattle.lt_model.specs.Machine.{State, StreamAt, cat_of, checkpoint_at, checkpoints_meeting, first_below, least, numbered_from, pending_of, ranges_of, seen_pending}
-use Rattle.lt_model.specs.Bundle.{has_table}
-use Rattle.lt_model.specs.Store.{Durable, IsLawfulPart, Part, carried_versions, deltas_of, part_ranges, stored}
-use Rattle.lt_model.specs.Sound.{AreAtPlaces, FrontsFrom, IsGood, PendingOf, PendingOfAll, SoundPart, SoundParts, held_versions, items_before, passed, row_cells, source_of}
+use Rattle.lt_terms.specs.Key.{Range, in_range, meets, same_key, tile}
+use Rattle.lt_terms.specs.Log.{Change, Header, Item, change_key, changes_of}
+use Rattle.lt_world.specs.Feed.{Feed}
+use Rattle.lt_tables.specs.Schema.{Catalogue, Table, first_of, table_numbered}
+use Rattle.lt_tables.specs.Version.{RowVersion, asof, clip, merge, put_versions, seen}
+use Rattle.lt_tables.specs.Pump.{Part, StreamAt, numbered_from}
+use Rattle.lt_tables.specs.Fair.{changes_to, checkpoint_of, header_length, is_fair}
+use Rattle.lt_tables.specs.Row.{is_in_time, row_at}
+use Rattle.lt_storage.specs.Store.{Durable, IsLawfulPart, carried_versions, deltas_of, part_ranges, stored}
+use Rattle.lt_storage.specs.Bundle.{has_table}
+use Rattle.lt_machine.specs.Machine.{State, cat_of, checkpoint_at, checkpoints_meeting, first_below, least, ranges_of, seen_pending}
+use Rattle.lt_machine.specs.Sound.{AreAtPlaces, FrontsFrom, IsGood, PendingOf, PendingOfAll, SoundPart, SoundParts, held_versions, items_before, passed, row_cells, source_of}
+use Rattle.lt_codecs.proofs.ListFacts.{all_append, all_both, all_map, all_rest}
+use Rattle.lt_lemmas.proofs.MergeLaws.{clip-ordered, named}
+use Rattle.lt_lemmas.proofs.RangeLaws.{IsOutOf, IsSole, tile_sole}
+use Rattle.lt_lemmas.proofs.SnapshotLaws.{or_rest}
+use Rattle.lt_lemmas.proofs.SoundLaws.{meets-by, pick}
+use Rattle.lt_lemmas.proofs.ListFacts.{all_contained, find_held, mapped_some}
+use Rattle.lt_lemmas.proofs.PointLaws.{changes_of-append, itself, same}
+use Rattle.lt_laws.proofs.MergeLaws.{find-clip, find-puts, merge-first, merge-ordered}
+use Rattle.lt_laws.proofs.SoundLaws.{at-least, before-take, checkpoint-is, in-some-part, kept-by, le-false, le-true, least-all, none-mapped, not-found, open-items}
+use Rattle.lt_laws.proofs.ReadLaws.{or_left, or_right}
 use Rattle.lt_laws.proofs.FairLaws.{fair_in_range}
 use Rattle.lt_laws.proofs.FrontLaws.{rest_above}
-use Rattle.lt_laws.proofs.HeldLaws.{KeyHeld, held_reads, once}
-use Rattle.lt_laws.proofs.ListFacts.{all_at, all_both, all_contained, all_map, all_append, all_rest, contains_front, contains_rest, find_held, from_filter_map, held_is_found, in_filter_map, mapped_some}
-use Rattle.lt_laws.proofs.MergeLaws.{clip-ordered, find-clip, find-puts, merge-first, merge-ordered, named}
-use Rattle.lt_laws.proofs.PointLaws.{changes_of-append, itself, same}
-use Rattle.lt_laws.proofs.RangeLaws.{IsOutOf, IsSole, source_in_time, tile_sole}
-use Rattle.lt_laws.proofs.ReadLaws.{or_left, or_right}
-use Rattle.lt_laws.proofs.SnapshotLaws.{or_rest}
+use Rattle.lt_laws.proofs.ListFacts.{all_at, contains_front, contains_rest, from_filter_map, held_is_found, in_filter_map}
 use Rattle.lt_laws.proofs.ScanLemmas.{AreOf, from-filter, in-filter, seen-key}
-use Rattle.lt_laws.proofs.SoundLaws.{at-least, before-take, checkpoint-is, in-some-part, kept-by, le-false, le-true, least-all, meets-by, none-mapped, not-found, open-items, pick}
+use Rattle.lt_laws.proofs.HeldLaws.{KeyHeld, held_reads, once}
+use Rattle.lt_laws.proofs.RangeLaws.{source_in_time}
+use Rattle.lt_machine.specs.Machine as machine
 
 -- ---- each partition's versions
 

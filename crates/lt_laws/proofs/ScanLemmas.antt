@@ -1,32 +1,34 @@
 -- What is stored of the changes of a table reads as the rows that they make.
-use Rattle.std.proofs.Common.{◌≡◌, ℕ, refl, List, [], ◌∷◌, ◌++◌, true, false, sym, ap, subst, ◌∙◌, arith, eqb-true, eq-eqb, ltb-true, leb-true, leb-false, lt-ltb, le-ltb, Ordering, Less, Equal, Greater, inl, inr}
-use Rattle.std.specs.Prelude.{Bool, Contains, ◌⊎◌, option_and_then, ◌||◌, ◌&&◌, ◌==◌, ◌<◌, ◌≤◌, IsTrue, None, Option, Some, cond, filter, find, fold, map, nat_le, nat_lt, option_map, unwrap_or}
-use Rattle.std.specs.List.{AllByRecursion, list_all}
+use Rattle.std.proofs.Common.{Equal, Greater, Less, List, Ordering, [], ap, arith, eq-eqb, eqb-true, false, inl, inr, le-ltb, leb-false, leb-true, lt-ltb, ltb-true, refl, subst, sym, true, ℕ, ◌++◌, ◌∙◌, ◌∷◌, ◌≡◌}
+use Rattle.std.specs.Prelude.{Bool, Contains, IsTrue, None, Option, Some, cond, filter, find, fold, map, nat_le, nat_lt, option_and_then, option_map, unwrap_or, ◌&&◌, ◌<◌, ◌==◌, ◌||◌, ◌≤◌, ◌⊎◌}
 use Rattle.std.specs.Option.{option_map_or, option_or}
-use Rattle.std.proofs.lemmas.Bool.{and_parts, and_from, lt-leb, false≢true}
-use Rattle.lt_model.specs.declared.Op.{Op}
-use Rattle.lt_model.specs.declared.Op.TheVariants as ops
-use Rattle.lt_model.specs.Value.{Value, bool_value, bytes_value, int_value, is_value, null_value, rises_above, rises_strictly, struct_value, text_value}
-use Rattle.lt_model.specs.Kind.{FieldKinds, Kind, enumeration, field_kind, has_shape, nesting, no_kinds, plain, structured}
-use Rattle.lt_model.specs.Conversion.{conv}
-use Rattle.lt_model.specs.Laws.{is_struct_where, lies_within}
-use Rattle.lt_laws.proofs.ConversionLemmas.{conv_shape, conversion_laws, is_rising}
-use Rattle.lt_laws.proofs.FlattenLemmas.{flattens_back-columns}
-use Rattle.lt_model.specs.Layout.{Cell, Leaf, bool_cell, cell_of, field_leaves, flatten, is_structure, is_unset, layout_of, leaf_cell, leaves, setting, unflatten, unset, value_along}
-use Rattle.lt_model.specs.Schema.{Catalogue, Column, Table, carrier, carrier_layout, carriers, carriers_of, column_live, column_numbers, fallback, table_numbered}
-use Rattle.lt_model.specs.Log.{Change, change_key}
-use Rattle.lt_model.specs.Row.{Row, after_change, is_in_time, read_row, row_after, row_at, row_by}
-use Rattle.lt_model.specs.Fair.{changes_to}
-use Rattle.lt_laws.proofs.RowLemmas.{reads_in_order}
-use Rattle.lt_model.specs.Key.{below, bytes_cmp, same_key}
+use Rattle.std.specs.List.{AllByRecursion, list_all}
+use Rattle.std.proofs.lemmas.Bool.{and_from, and_parts, false≢true, lt-leb}
 use Rattle.std.specs.Ordering.{is_eq, is_lt}
-use Rattle.std.proofs.lemmas.Cmp.{nat_list_cmp_total, tied_itself}
 use Rattle.std.proofs.lemmas.Map.Lookups.{exact_bytes}
-use Rattle.lt_laws.proofs.MergeLaws.{Above, named, ordered-above, ordered-cons, ordered-tail, ordered-unique, filter-ordered}
-use Rattle.lt_laws.proofs.ListLaws.{asof-effect}
+use Rattle.std.proofs.lemmas.Cmp.{nat_list_cmp_total, tied_itself}
 use Rattle.std.proofs.lemmas.List.Elements.{Contains-append_cases, Contains-append_left, Contains-append_right, Contains-push, Contains-push_cases}
-use Rattle.lt_model.specs.Sound.{row_cells, up_to_ts}
-use Rattle.lt_model.specs.Version.{RowVersion, asof, is_ordered, stands_before, carried, effect, effect_by, effect_of, overlay, read_cells, seen}
+use Rattle.lt_terms.specs.Value.{Value, bool_value, bytes_value, int_value, is_value, null_value, rises_above, rises_strictly, struct_value, text_value}
+use Rattle.lt_terms.specs.Layout.{Cell, Leaf, bool_cell, cell_of, field_leaves, flatten, is_structure, is_unset, layout_of, leaf_cell, leaves, setting, unflatten, unset, value_along}
+use Rattle.lt_terms.specs.declared.Op.{Op}
+use Rattle.lt_terms.specs.Log.{Change, change_key}
+use Rattle.lt_terms.specs.Kind.{FieldKinds, Kind, enumeration, field_kind, has_shape, nesting, no_kinds, plain, structured}
+use Rattle.lt_terms.specs.Conversion.{conv}
+use Rattle.lt_terms.specs.Key.{below, bytes_cmp, same_key}
+use Rattle.lt_tables.specs.Version.{RowVersion, asof, carried, effect, effect_by, effect_of, is_ordered, overlay, read_cells, seen, stands_before}
+use Rattle.lt_tables.specs.Row.{Row, after_change, is_in_time, read_row, row_after, row_at, row_by}
+use Rattle.lt_tables.specs.Schema.{Catalogue, Column, Table, carrier, carrier_layout, carriers, carriers_of, column_live, column_numbers, fallback, table_numbered}
+use Rattle.lt_tables.specs.Fair.{changes_to}
+use Rattle.lt_machine.specs.Sound.{row_cells, up_to_ts}
+use Rattle.lt_machine.specs.Laws.{is_struct_where, lies_within}
+use Rattle.lt_lemmas.proofs.ConversionLemmas.{is_rising}
+use Rattle.lt_lemmas.proofs.RowLemmas.{reads_in_order}
+use Rattle.lt_lemmas.proofs.MergeLaws.{Above, filter-ordered, named, ordered-above, ordered-cons, ordered-tail}
+use Rattle.lt_laws.proofs.FlattenLemmas.{flattens_back-columns}
+use Rattle.lt_laws.proofs.ConversionLemmas.{conv_shape, conversion_laws}
+use Rattle.lt_laws.proofs.ListLaws.{asof-effect}
+use Rattle.lt_laws.proofs.MergeLaws.{ordered-unique}
+use Rattle.lt_terms.specs.declared.Op.TheVariants as ops
 
 -- ---- settings over settings
 

@@ -1,39 +1,39 @@
 -- A fair change as a store holds it is a lawful version under the carriers, and stays as it is where it is read by them again.
 use Rattle.std.proofs.Common.{Bool, List, [], ap, ap₂, arith, cond, eq-eqb, eqb-true, false, le-leb, length, ltb-true, refl, subst, suc, sym, take, true, ℕ, ◌<◌, ◌∙◌, ◌∷◌, ◌≡◌, ◌≤◌}
-use Rattle.std.specs.Prelude.{Contains, IsTrue, None, Option, Some, find, map, nat_eq, nat_le, nat_lt, not, option_map, ◌&&◌, ◌==◌, ◌||◌}
+use Rattle.std.specs.Prelude.{Contains, IsTrue, None, Option, Some, find, flat_map, map, nat_eq, nat_le, nat_lt, not, option_map, ◌&&◌, ◌==◌, ◌||◌}
 use Rattle.std.specs.List.{AllByRecursion, list_all, starts_with}
-use Rattle.std.specs.Option.{option_map_or}
-use Rattle.std.specs.Cmp.Lexicographic.{pointwise}
-use Rattle.std.specs.Str.{is_utf8}
 use Rattle.std.proofs.lemmas.Bool.{and_from, and_parts, false≢true}
-use Rattle.lt_model.specs.declared.Rank.{Rank}
-use Rattle.lt_model.specs.Value.{Value, bool_value, bytes_value, fits_32, int_value, null_value, struct_value, text_value}
-use Rattle.lt_model.specs.Kind.{Kind, has_shape, plain}
-use Rattle.lt_model.specs.Key.{max_key}
-use Rattle.lt_model.specs.Conversion.{at_rank, conv}
-use Rattle.lt_model.specs.Layout.{Cell, Leaf, agree, are_lawful, bool_cell, bytes_cell, cell_of, cell_to, coerce, field_of, flatten, int_cell, is_below, is_structure, is_unset, is_void, lacking, layout_of, leaf_cell, null_cell, same_leaf, same_truth, says_absent, setting, suits, unset, value_along, value_of}
-use Rattle.lt_model.specs.Schema.{Catalogue, IsCatalogue, Table, carrier, carriers, table_numbered}
+use Rattle.std.specs.Option.{option_map_or}
+use Rattle.std.specs.Str.{is_utf8}
+use Rattle.std.specs.Cmp.Lexicographic.{pointwise}
 use Rattle.std.proofs.lemmas.List.{length-append}
-use Rattle.std.specs.Prelude.{flat_map}
-use Rattle.lt_model.specs.declared.Op.{Op}
-use Rattle.lt_model.specs.Key.{part_bytes}
-use Rattle.lt_model.specs.Version.{RowVersion, carried, coerced, is_delete, is_version, seen}
-use Rattle.lt_laws.proofs.AnswerLaws.{IsSound}
-use Rattle.lt_laws.proofs.TakenLaws.{left, right}
-use Rattle.lt_laws.proofs.WidenedRows.{carried_as, sound_sets, sound_shape}
-use Rattle.lt_laws.proofs.WidenedStore.{known_carriers}
-use Rattle.lt_model.specs.declared.Op.TheVariants as ops
-use Rattle.lt_model.specs.Log.{Change, change_key, op_byte, u32}
-use Rattle.lt_model.specs.Laws.{lies_within}
-use Rattle.lt_laws.proofs.CoerceLaws.{Cells, IsOfRank, beside, cell_as, cell_for, found_beside, map_same, suits_rank, unset_to, with_own, is_the_unset}
+use Rattle.lt_terms.specs.Layout.{Cell, Leaf, agree, are_lawful, bool_cell, bytes_cell, cell_of, cell_to, coerce, field_of, flatten, int_cell, is_below, is_structure, is_unset, is_void, lacking, layout_of, leaf_cell, null_cell, same_leaf, same_truth, says_absent, setting, suits, unset, value_along, value_of}
+use Rattle.lt_terms.specs.declared.Rank.{Rank}
+use Rattle.lt_terms.specs.Kind.{Kind, has_shape, plain}
+use Rattle.lt_terms.specs.Value.{Value, bool_value, bytes_value, fits_32, int_value, null_value, struct_value, text_value}
+use Rattle.lt_terms.specs.Conversion.{at_rank, conv}
+use Rattle.lt_terms.specs.Log.{Change, change_key, op_byte, u32}
+use Rattle.lt_terms.specs.Key.{max_key, part_bytes}
+use Rattle.lt_terms.specs.declared.Op.{Op}
+use Rattle.lt_tables.specs.Schema.{Catalogue, IsCatalogue, Table, carrier, carriers, table_numbered}
+use Rattle.lt_tables.specs.Version.{RowVersion, carried, coerced, is_delete, is_version, seen}
+use Rattle.lt_machine.specs.Laws.{lies_within}
+use Rattle.lt_codecs.proofs.ListFacts.{all_map}
+use Rattle.lt_lemmas.proofs.ListFacts.{all_from, find_held}
+use Rattle.lt_lemmas.proofs.TableLaws.{IsFineTable, fine_table}
+use Rattle.lt_lemmas.proofs.TakenLaws.{left, right}
+use Rattle.lt_laws.proofs.CoerceLaws.{Cells, IsOfRank, beside, cell_as, cell_for, found_beside, is_the_unset, map_same, suits_rank, unset_to, with_own}
 use Rattle.lt_laws.proofs.ConversionLemmas.{rank_stays}
 use Rattle.lt_laws.proofs.LeafLaws.{AreColumns, IsMarked, Mark, all_marked, found_leaf, leaf_found, leaf_in, leaf_is, leaf_of}
-use Rattle.lt_laws.proofs.ListFacts.{all_at, all_from, all_map, find_held}
+use Rattle.lt_laws.proofs.ListFacts.{all_at}
+use Rattle.lt_laws.proofs.WidenLaws.{along, along_none, lies_along, lies_shape, presence_bool}
 use Rattle.lt_laws.proofs.ScanLemmas.{IsWithin, at_carrier, leaf_cell-set, setting-map}
 use Rattle.lt_laws.proofs.TableGrowth.{IsSetIn, LeafOf, are_columns, cell_in, cols, leaf_in_cols, set_at, setting_held}
-use Rattle.lt_laws.proofs.TableLaws.{IsFineTable, fine_table}
-use Rattle.lt_laws.proofs.WidenLaws.{along, along_none, lies_along, lies_shape, presence_bool}
-use Rattle.lt_model.specs.declared.Rank.TheVariants as rank
+use Rattle.lt_laws.proofs.AnswerLaws.{IsSound}
+use Rattle.lt_laws.proofs.WidenedRows.{carried_as, sound_sets, sound_shape}
+use Rattle.lt_laws.proofs.WidenedStore.{known_carriers}
+use Rattle.lt_terms.specs.declared.Rank.TheVariants as rank
+use Rattle.lt_terms.specs.declared.Op.TheVariants as ops
 
 -- ---- cells under a layout, leaf by leaf
 

@@ -1,29 +1,31 @@
 -- A shelf with one delta more: what the ids name on it, and what a partition has stored that lists the new delta too.
 use Rattle.std.proofs.Common.{Bool, List, [], ap, ap₂, arith, cond, eq-eqb, eqb-true, false, inl, inr, length, lt-ltb, ltb-true, ne_eqb, refl, subst, sym, true, zero, ℕ, ◌++◌, ◌<◌, ◌∙◌, ◌∷◌, ◌≡◌}
-use Rattle.std.specs.Prelude.{Contains, filter, IsTrue, None, Option, Some, filter_map, find, is_some, map, option_map, ◌&&◌, ◌==◌, ◌⊎◌}
+use Rattle.std.specs.Prelude.{Contains, IsTrue, None, Option, Some, filter, filter_map, find, is_some, map, option_map, ◌&&◌, ◌==◌, ◌⊎◌}
+use Rattle.std.proofs.lemmas.Bool.{and_parts, false≢true}
 use Rattle.std.specs.List.{AllByRecursion, cons_option}
 use Rattle.std.specs.Option.{option_map_or, option_or}
-use Rattle.std.proofs.lemmas.Bool.{and_parts, false≢true}
 use Rattle.std.proofs.lemmas.List.{map-append}
-use Rattle.lt_model.specs.Key.{same_key}
-use Rattle.lt_model.specs.Schema.{Catalogue, IsCatalogue, Table, carriers, first_of, table_numbered}
-use Rattle.lt_model.specs.Log.{Change, change_key}
-use Rattle.lt_model.specs.Version.{RowVersion, coerce_all, coerced, is_ordered, merge, seen, stands_before}
-use Rattle.lt_model.specs.Store.{Delta, TableDelta, carried_versions, delta_with, deltas_of, table_of, versions_in}
-use Rattle.lt_model.specs.Machine as machine
-use Rattle.lt_model.specs.Machine.{delta_of, flushed_lists, not_empty, seen_pending, table_delta, table_numbers}
-use Rattle.lt_model.specs.Sound.{names_rise}
+use Rattle.lt_terms.specs.Key.{same_key}
+use Rattle.lt_terms.specs.Log.{Change, change_key}
+use Rattle.lt_tables.specs.Version.{RowVersion, coerce_all, coerced, is_ordered, merge, seen, stands_before}
+use Rattle.lt_tables.specs.Schema.{Catalogue, IsCatalogue, Table, carriers, first_of, table_numbered}
+use Rattle.lt_tables.specs.Pump.{names_rise}
+use Rattle.lt_storage.specs.Store.{Delta, TableDelta, carried_versions, delta_with, deltas_of, table_of, versions_in}
+use Rattle.lt_machine.specs.Machine.{delta_of, flushed_lists, not_empty, seen_pending, table_delta, table_numbers}
+use Rattle.lt_lemmas.proofs.ListFacts.{all_from, filter_map-append, find_held, mapped_some}
+use Rattle.lt_lemmas.proofs.MergeLaws.{Above, named, named-key, named-ts, ordered-above, ordered-cons, ordered-tail}
+use Rattle.lt_lemmas.proofs.PointLaws.{first_of-append, same}
+use Rattle.lt_lemmas.proofs.PumpLaws.{Name, as_version, as_versions}
+use Rattle.lt_laws.proofs.MergeLaws.{merge-first, merge-ordered}
+use Rattle.lt_laws.proofs.ScanLemmas.{found-held, from-filter, held-found, in-filter, seen-key, seen-ts}
 use Rattle.lt_laws.proofs.AnswerLaws.{IsSound}
 use Rattle.lt_laws.proofs.CoerceLaws.{map_same}
-use Rattle.lt_laws.proofs.ListFacts.{all_at, all_from, filter_map-append, find_held, from_map, held_is_found, in_map, mapped_some}
-use Rattle.lt_laws.proofs.ListLaws.{cut-whole}
-use Rattle.lt_laws.proofs.MergeLaws.{Above, merge-first, merge-ordered, named, named-key, named-ts, ordered-above, ordered-cons, ordered-tail}
-use Rattle.lt_laws.proofs.PointLaws.{first_of-append, same}
-use Rattle.lt_laws.proofs.PumpLaws.{Name, as_version, as_versions}
+use Rattle.lt_laws.proofs.ListFacts.{all_at, from_map, held_is_found, in_map}
 use Rattle.lt_laws.proofs.ScanLaws.{seen_from}
-use Rattle.lt_laws.proofs.ScanLemmas.{found-held, from-filter, held-found, in-filter, seen-key, seen-ts}
 use Rattle.lt_laws.proofs.SeenLaws.{seen_own}
+use Rattle.lt_laws.proofs.ListLaws.{cut-whole}
 use Rattle.lt_laws.proofs.WidenedRows.{sound_shape}
+use Rattle.lt_machine.specs.Machine as machine
 
 -- ---- what ids name
 

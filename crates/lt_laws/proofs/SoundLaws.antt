@@ -1,51 +1,30 @@
 -- Laws of soundness: an opening finds a good state, a longer feed keeps it, and changes no row up to a safe moment.
-use Rattle.std.proofs.Common.{Bool, List, [], ap, ap₂, arith, cond, false, le-ltb, length, lt-ltb, refl, subst, suc, sym, take, true, zero, ℕ, ◌++◌, ◌+◌, ◌<◌, ◌∙◌, ◌∷◌, ◌≡◌, ◌≤◌}
-use Rattle.std.specs.Prelude.{Contains, IsTrue, None, Option, Some, filter, flat_map, fold, map, max, nat_le, nat_lt, not, zip, ⊤, ◌&&◌, ◌||◌}
-use Rattle.std.specs.List.{AllByRecursion, list_all}
+use Rattle.std.proofs.Common.{Bool, List, [], ap, ap₂, arith, cond, drop, false, le-ltb, length, lt-ltb, refl, subst, suc, sym, take, true, zero, ℕ, ◌++◌, ◌+◌, ◌<◌, ◌∙◌, ◌∷◌, ◌≡◌, ◌≤◌}
+use Rattle.std.specs.List.{AllByRecursion, cons_option, list_all}
+use Rattle.std.specs.Prelude.{Contains, IsTrue, None, Option, Some, filter, find, flat_map, fold, map, max, min, nat_le, nat_lt, not, option_map, zip, ⊤, ◌&&◌, ◌==◌, ◌||◌}
+use Rattle.std.proofs.lemmas.List.{length-append, take-append-drop, take-append-le}
+use Rattle.std.proofs.lemmas.Bool.Decides.{nat_tests}
 use Rattle.std.specs.Option.{option_map_or}
 use Rattle.std.proofs.lemmas.Bool.{and_from}
-use Rattle.std.proofs.lemmas.Bool.Decides.{nat_tests}
-use Rattle.std.proofs.lemmas.List.{length-append, take-append-le}
-use Rattle.std.proofs.Common.{drop}
-use Rattle.std.specs.Prelude.{find, min, option_map, ◌==◌}
-use Rattle.std.specs.List.{cons_option}
-use Rattle.std.proofs.lemmas.List.{take-append-drop}
-use Rattle.lt_model.specs.Key.{tile}
-use Rattle.lt_model.specs.Schema.{when}
-use Rattle.lt_model.specs.Row.{row_at}
-use Rattle.lt_model.specs.Machine.{checkpoint_at, checkpoints_meeting, first_below, least, numbered_from}
-use Rattle.lt_model.specs.Key.{Range, below, common, first_bound, in_range, is_below_high, meets, same_key}
-use Rattle.lt_model.specs.Schema.{Became, Catalogue, IsCatalogue, as_it_was}
-use Rattle.lt_model.specs.Log.{Change, Header, Item, batch_item, change_item, change_key, changes_in, changes_of, checkpoint_item, close_item, header_item, is_item, is_read, spelled}
-use Rattle.lt_model.specs.Fair.{AreShort, Feed, Grows, Point, checkpoint_of, greatest_of, header_length, is_closed, is_fair, place_after, point_of}
-use Rattle.lt_model.specs.Machine.{State, StreamAt, behind_header, cat_of, is_usable, last_of, ranges_of, start_of, usable_point}
-use Rattle.lt_model.specs.Store.{Durable, Part, Stream, part_ranges}
-use Rattle.lt_model.specs.Sound.{AreAtPlaces, Fronts, FrontsFrom, IsGood, IsPlace, IsSound, OpeningIsGood, PendingOfAll, SoundPart, SoundPartOf, SoundParts, SoundPoints, Stands, items_before, passed, row_cells, source_of}
-use Rattle.lt_model.specs.declared.Format.{Format}
-use Rattle.lt_model.specs.declared.Format.TheVariants as format
+use Rattle.lt_terms.specs.Log.{Change, Header, Item, batch_item, change_item, change_key, changes_in, changes_of, checkpoint_item, close_item, header_item, is_item, is_read, spelled}
+use Rattle.lt_terms.specs.declared.Format.{Format}
+use Rattle.lt_terms.specs.Key.{Range, below, first_bound, in_range, meets, tile}
+use Rattle.lt_world.specs.Feed.{AreShort, Feed, Grows}
+use Rattle.lt_tables.specs.Pump.{Part, StreamAt, behind_header, last_of, numbered_from}
+use Rattle.lt_tables.specs.Fair.{Point, checkpoint_of, greatest_of, header_length, is_closed, is_fair, place_after, point_of}
+use Rattle.lt_tables.specs.Schema.{Became, Catalogue, IsCatalogue, as_it_was, when}
+use Rattle.lt_tables.specs.Row.{row_at}
+use Rattle.lt_storage.specs.Store.{Durable, Stream, part_ranges}
+use Rattle.lt_machine.specs.Sound.{AreAtPlaces, Fronts, FrontsFrom, IsGood, IsPlace, IsSound, OpeningIsGood, PendingOfAll, SoundPart, SoundPartOf, SoundParts, SoundPoints, Stands, items_before, passed, row_cells, source_of}
+use Rattle.lt_machine.specs.Machine.{State, cat_of, checkpoint_at, checkpoints_meeting, first_below, is_usable, least, ranges_of, start_of, usable_point}
+use Rattle.lt_codecs.proofs.LogLaws.{frames_prefix_free}
+use Rattle.lt_lemmas.proofs.SoundLaws.{left, meets-by, pick, right}
+use Rattle.lt_lemmas.proofs.PointLaws.{changes_of-append}
 use Rattle.lt_laws.proofs.FairLaws.{AllInRange, ArePast, fair_in_range, row_stays}
 use Rattle.lt_laws.proofs.FrontLaws.{FrontsStay, checkpoint_rises, fronts_stay, rest_above}
-use Rattle.lt_laws.proofs.PointLaws.{above, below_trans, changes_of-append, same}
-use Rattle.lt_laws.proofs.ClipLaws.{in-common}
-use Rattle.lt_codecs.proofs.LogLaws.{frames_prefix_free}
+use Rattle.lt_terms.specs.declared.Format.TheVariants as format
 
 -- ---- tests and lists
-
-left : (a b : Bool) → (a && b) ≡ true → a ≡ true
-left true b h = refl
-left false b h = h
-
-right : (a b : Bool) → (a && b) ≡ true → b ≡ true
-right true b h = h
-right false b h = cc
-
-pub not-true : (b : Bool) → not b ≡ true → b ≡ false
-not-true true h = sym h
-not-true false h = refl
-
-pub twice : (b : Bool) → b ≡ true → not (not b) ≡ true
-twice true h = refl
-twice false h = h
 
 all-append : {A : Type 0} (P : A → Type 0) (xs ys : List A) → AllByRecursion P xs → AllByRecursion P ys → AllByRecursion P (xs ++ ys)
 all-append P [] ys a b = b
@@ -80,19 +59,6 @@ filter-all-by P test x xs false e p a = a
 pub filter-all : {A : Type 0} (P : A → Type 0) (test : A → Bool) (xs : List A) → AllByRecursion P xs → AllByRecursion (λ x. P x × (test x ≡ true)) (filter test xs)
 filter-all P test [] a = tt
 filter-all P test (x ∷ xs) a = filter-all-by P test x (filter test xs) (test x) refl a.0 (filter-all P test xs a.1)
-
--- ---- two ranges with a key in common meet
-
-pub low-high : (k low : List ℕ) (high : Option (List ℕ)) (b : Bool) → same_key k low ≡ b → below k low ≡ false → is_below_high k high ≡ true → is_below_high low high ≡ true
-low-high k low None b s h e = refl
-low-high k low (Some x) true s h e = subst (λ (y : List ℕ). below y x ≡ true) (same k low s) e
-low-high k low (Some x) false s h e = below_trans low k x (above k low h s) e
-
-pub meets-by : (k : List ℕ) (r s : Range) → in_range k r ≡ true → in_range k s ≡ true → meets r s ≡ true
-meets-by k r s a b =
-    let e : in_range k (common r s) ≡ true = in-common k r s ∙ and_from _ _ a b in
-    twice (is_below_high (common r s).low (common r s).high) (low-high k (common r s).low (common r s).high (same_key k (common r s).low) refl
-    (not-true (below k (common r s).low) (left (not (below k (common r s).low)) _ e)) (right (not (below k (common r s).low)) _ e))
 
 -- ---- the items before a place
 
@@ -455,10 +421,6 @@ sound_grows_where image feed more grows s gs b = record {
 }
 
 -- ---- a longer feed changes no row up to a safe moment
-
-pub pick : {X : Type 0} (b : Bool) → (b ≡ true → X) → (b ≡ false → X) → X
-pick true f g = f refl
-pick false f g = g refl
 
 least-low : (t n : ℕ) (ns : List ℕ) → t ≤ fold min n ns → (t ≤ n) × AllByRecursion (λ m. t ≤ m) ns
 least-low t n [] h = (h, tt)

@@ -1,63 +1,46 @@
 -- A split keeps a good session: what holds of a partition holds of each range within its own.
 use Rattle.std.proofs.Common.{Bool, List, [], ap, arith, cond, false, inl, inr, le-leb, length, ltb-false, refl, subst, sym, true, ℕ, ◌+◌, ◌<◌, ◌∙◌, ◌∷◌, ◌≡◌, ◌≤◌}
+use Rattle.std.proofs.lemmas.Bool.{and_from, and_parts, false≢true, leb-false}
 use Rattle.std.specs.Prelude.{Contains, IsTrue, None, Option, Some, filter, find, map, nat_le, nat_lt, not, option_and_then, option_map, zip, ⊤, ◌&&◌, ◌==◌, ◌^◌, ◌||◌, ◌⊎◌}
 use Rattle.std.specs.List.{AllByRecursion, list_all, list_any}
-use Rattle.std.specs.Ordering.{is_eq, is_lt}
-use Rattle.std.specs.declared.cmp.Ordering.{Ordering}
-use Rattle.std.specs.declared.cmp.Ordering.TheVariants.{Equal, Greater, Less}
-use Rattle.std.proofs.lemmas.Bool.{and_from, and_parts, false≢true, leb-false}
-use Rattle.lt_model.specs.Value.{rises_strictly}
-use Rattle.lt_model.specs.Key.{Range, below, bytes_cmp, common, first_bound, in_range, is_below_high, is_high_within, lies_in, max_key, meets, rise, same_key, tile}
-use Rattle.lt_model.specs.Log.{Change, Header, Item, change_key}
-use Rattle.lt_model.specs.Fair.{checkpoint_of}
-use Rattle.lt_model.specs.Version.{RowVersion, clip, effect_of, is_ordered, merge, seen}
-use Rattle.lt_model.specs.Store.{Durable, IsLawfulManifest, Manifest, Part, bare_manifest, carried_versions, deltas_of, fits_63, is_delta_entry, is_part_entry, merged_in, part_ranges}
-use Rattle.lt_model.specs.Sound.{IsGood, JobBegan, JobStands, ListsAll, PendingOf, PendingOfAll, SoundPart, SoundParts, names_rise, passed, up_to_ts}
-use Rattle.lt_laws.proofs.ClipLaws.{in-common}
-use Rattle.lt_model.specs.Machine as machine
-use Rattle.lt_model.specs.Machine.{Job, State, cat_of, edge_of, numbered_from, of_split, split_key, split_parts, split_pending}
-use Rattle.lt_model.specs.Reply.{at_edge, key_too_long, too_many_parts}
-use Rattle.lt_model.specs.Script.{do_split}
-use Rattle.lt_model.specs.Query.{Literal}
-use Rattle.lt_model.specs.Schema.{Table, table_named, when}
-use Rattle.lt_model.specs.declared.Extent.{Extent}
 use Rattle.std.specs.Option.{option_or}
-use Rattle.lt_laws.proofs.MergeLaws.{filter-ordered}
-use Rattle.lt_laws.proofs.StepLaws.{KeepsDoing, all_pending_as, if_some, next_generation, pending_as, unrefused}
-use Rattle.lt_laws.proofs.PointLaws as PointLaws
-use Rattle.lt_laws.proofs.ReadLaws.{or_left, or_right}
-use Rattle.lt_laws.proofs.ListFacts.{none_mapped}
-use Rattle.lt_laws.proofs.PumpLaws.{as_version, as_versions}
-use Rattle.lt_laws.proofs.ListFacts.{all_at, all_from, all_map}
-use Rattle.lt_laws.proofs.PointLaws.{above, below_trans, itself, same, swapped, when_none}
+use Rattle.lt_terms.specs.Key.{Range, below, common, first_bound, in_range, is_below_high, is_high_within, lies_in, max_key, meets, rise, same_key, tile}
+use Rattle.lt_terms.specs.Log.{Change, Header, Item, change_key}
+use Rattle.lt_terms.specs.Value.{rises_strictly}
+use Rattle.lt_terms.specs.declared.Extent.{Extent}
+use Rattle.lt_tables.specs.Version.{RowVersion, clip, effect_of, is_ordered, merge, seen}
+use Rattle.lt_tables.specs.Pump.{Part, names_rise, numbered_from}
+use Rattle.lt_tables.specs.Fair.{checkpoint_of}
+use Rattle.lt_tables.specs.Query.{Literal, do_split}
+use Rattle.lt_tables.specs.Schema.{Table, table_named, when}
+use Rattle.lt_words.specs.Reply.{at_edge, key_too_long, too_many_parts}
+use Rattle.lt_storage.specs.Store.{Durable, IsLawfulManifest, Manifest, bare_manifest, carried_versions, deltas_of, fits_63, is_delta_entry, is_part_entry, merged_in, part_ranges}
+use Rattle.lt_machine.specs.Sound.{IsGood, JobBegan, JobStands, ListsAll, PendingOf, PendingOfAll, SoundPart, SoundParts, passed, up_to_ts}
+use Rattle.lt_machine.specs.Machine.{Job, State, cat_of, edge_of, of_split, split_key, split_parts, split_pending}
+use Rattle.lt_codecs.proofs.ListFacts.{all_map, none_mapped}
+use Rattle.lt_lemmas.proofs.PointLaws.{above, below_trans, same, swapped}
+use Rattle.lt_lemmas.proofs.SoundLaws.{meets-by, not-true, pick}
+use Rattle.lt_lemmas.proofs.SplitLaws.{is_false, meets_some, not_below_itself, not_below_trans, rise_first, rise_rest}
+use Rattle.lt_lemmas.proofs.PumpLaws.{as_version, as_versions}
+use Rattle.lt_lemmas.proofs.MergeLaws.{filter-ordered}
+use Rattle.lt_lemmas.proofs.ListFacts.{all_from, when_none}
+use Rattle.lt_lemmas.proofs.ClipLaws.{in-common}
+use Rattle.lt_lemmas.proofs.SnapshotLaws.{or_rest}
 use Rattle.lt_laws.proofs.ScanLemmas.{from-filter, in-filter, seen-key}
-use Rattle.lt_laws.proofs.SnapshotLaws.{or_rest}
-use Rattle.lt_laws.proofs.SoundLaws.{meets-by, not-found, not-true, pick}
+use Rattle.lt_laws.proofs.StepLaws.{KeepsDoing, all_pending_as, if_some, next_generation, pending_as, unrefused}
+use Rattle.lt_laws.proofs.ListFacts.{all_at}
+use Rattle.lt_laws.proofs.ReadLaws.{or_left, or_right}
+use Rattle.lt_laws.proofs.SoundLaws.{not-found}
+use Rattle.lt_machine.specs.Machine as machine
+use Rattle.lt_codecs.proofs.ListFacts as PointLaws
 
 -- ---- a range within another
-
-equal_not_less : (o : Ordering) → is_eq o ≡ true → is_lt o ≡ false
-equal_not_less Less h = cc
-equal_not_less Equal h = refl
-equal_not_less Greater h = cc
-
-pub not_below_itself : (k : List ℕ) → below k k ≡ false
-not_below_itself k = equal_not_less (bytes_cmp k k) (itself k)
-
-is_false : (b : Bool) → (b ≡ true → ⊥) → b ≡ false
-is_false true f = absurd (f refl)
-is_false false f = refl
 
 below_up : (k a b : List ℕ) → below k a ≡ true → below b a ≡ false → below k b ≡ true
 below_up k a b h i = pick (below k b) (λ e. e)
     (λ e. pick (same_key k b)
     (λ s. absurd (false≢true (sym i ∙ ap (λ (x : List ℕ). below x a) (sym (same k b s)) ∙ h)))
     (λ s. absurd (false≢true (sym i ∙ below_trans b k a (above k b e s) h))))
-
-pub not_below_trans : (a b c : List ℕ) → below a b ≡ false → below b c ≡ false → below a c ≡ false
-not_below_trans a b c h i = is_false (below a c) (λ e. pick (same_key a b)
-    (λ s. false≢true (sym i ∙ ap (λ (x : List ℕ). below x c) (sym (same a b s)) ∙ e))
-    (λ s. false≢true (sym i ∙ below_trans b a c (above a b h s) e)))
 
 high_up : (k : List ℕ) (a b : Option (List ℕ)) → is_high_within a b ≡ true → is_below_high k a ≡ true → is_below_high k b ≡ true
 high_up k a None h i = refl
@@ -82,19 +65,6 @@ lies_trans q r j h i =
     let l = and_parts (not (below q.low r.low)) (is_high_within q.high r.high) h in
     let m = and_parts (not (below r.low j.low)) (is_high_within r.high j.high) i in
     and_from _ _ (ap not (not_below_trans q.low r.low j.low (not-true (below q.low r.low) l.0) (not-true (below r.low j.low) m.0))) (high_trans q.high r.high j.high l.1 m.1)
-
-untwice : (b : Bool) → not (not b) ≡ true → b ≡ true
-untwice true h = refl
-untwice false h = h
-
--- ranges that meet have a key in common
-pub meets_some : (x q : Range) → meets x q ≡ true → (k : List ℕ) × (in_range k x ≡ true) × (in_range k q ≡ true)
-meets_some x q h =
-    let c = common x q in
-    let k = c.low in
-    let i : in_range k c ≡ true = and_from _ _ (ap not (not_below_itself k)) (untwice (is_below_high c.low c.high) h) in
-    let p = and_parts (in_range k x) (in_range k q) (sym (in-common k x q) ∙ i) in
-    (k, p.0, p.1)
 
 meets_up : (x q r : Range) → lies_in q r ≡ true → meets x q ≡ true → meets x r ≡ true
 meets_up x q r l h = let k = meets_some x q h in meets-by k.0 x r k.1 (in_lies k.0 q r l k.2)
@@ -395,14 +365,6 @@ job_split d j key n h =
 rise_cons : (a : List ℕ) (xs : List (List ℕ)) → ((b : List ℕ) → first_bound xs ≡ Some b → below a b ≡ true) → IsTrue (rise xs) → IsTrue (rise (a ∷ xs))
 rise_cons a [] f h = refl
 rise_cons a (b ∷ xs) f h = and_from _ _ (f b refl) h
-
-pub rise_first : (a b : List ℕ) (xs : List (List ℕ)) → IsTrue (rise (a ∷ xs)) → first_bound xs ≡ Some b → below a b ≡ true
-rise_first a b [] h e = cc
-rise_first a b (c ∷ xs) h e = let d : c ≡ b = cc in subst (λ (x : List ℕ). below a x ≡ true) d (and_parts (below a c) (rise (c ∷ xs)) h).0
-
-pub rise_rest : (a : List ℕ) (xs : List (List ℕ)) → IsTrue (rise (a ∷ xs)) → IsTrue (rise xs)
-rise_rest a [] h = refl
-rise_rest a (c ∷ xs) h = (and_parts (below a c) (rise (c ∷ xs)) h).1
 
 high_first : (key b : List ℕ) (o : Option (List ℕ)) → is_below_high key o ≡ true → o ≡ Some b → below key b ≡ true
 high_first key b o h e = sym (ap (is_below_high key) e) ∙ h

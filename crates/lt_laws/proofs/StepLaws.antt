@@ -1,22 +1,21 @@
 -- Steps keep a good session, command by command: the reads, and those that change no durable part.
-use Rattle.std.proofs.Common.{Bool, List, [], ap, ap₂, arith, cond, false, length, lt-ltb, ltb-true, refl, subst, sym, true, ℕ, ◌+◌, ◌<◌, ◌∙◌, ◌∷◌, ◌≡◌, inl, inr}
+use Rattle.std.proofs.Common.{Bool, List, [], ap, ap₂, arith, cond, false, inl, inr, length, lt-ltb, ltb-true, refl, subst, sym, true, ℕ, ◌+◌, ◌<◌, ◌∙◌, ◌∷◌, ◌≡◌}
 use Rattle.std.specs.Prelude.{Contains, IfSome, IsTrue, None, Option, Some, is_none, is_some, map, nat_lt, ◌&&◌, ◌-◌, ◌==◌, ◌^◌, ◌≢◌, ◌⊎◌}
-use Rattle.lt_model.specs.Key.{Range, ranges_from}
-use Rattle.lt_model.specs.Schema.{Catalogue, when}
-use Rattle.lt_model.specs.Log.{Change, Header, Item}
-use Rattle.lt_model.specs.Fair.{Feed}
-use Rattle.lt_model.specs.Store.{Durable, IsLawfulPart, Part, stored}
-use Rattle.lt_model.specs.Version.{RowVersion, seen}
-use Rattle.lt_model.specs.Script.{Command, do_compact, do_deltas, do_flush, do_job_begin, do_job_drop, do_job_finish, do_job_step, do_page, do_pump, do_reopen, do_retain, do_retire, do_scan, do_schema, do_split, do_status}
-use Rattle.lt_model.specs.Machine.{asks_for_job, bad_column_asked, compaction_asked, delta_limit, is_worn, is_write, last_version_retired, long_key, not_done_yet, not_safe_asked, retain_fault, retired_asked, schema_refused, split_fault, too_old_asked, unknown_delta, unknown_part, unknown_stream, unknown_table_asked, unknown_version_asked, wrong_literal_asked, Answer, Does, StepBy, refused, State, StreamAt, cat_of, initial_headers, is_broken, opened}
-use Rattle.lt_model.specs.Sound.{AreAtPlaces, FailedIsSound, Fronts, FrontsFrom, IsGood, IsSoundFor, KeepsGood, PendingOf, PendingOfAll, SoundPartOf, low_bounds, source_of}
-use Rattle.lt_model.specs.Query.{Query}
-use Rattle.lt_model.specs.Reply.{Refusal, job_open, needs_reopen, no_job, worn}
 use Rattle.std.proofs.lemmas.Bool.{and_from, and_parts, eqb-false, or_parts}
+use Rattle.lt_terms.specs.Log.{Change, Header, Item}
+use Rattle.lt_terms.specs.Key.{Range, ranges_from}
+use Rattle.lt_world.specs.Feed.{Feed}
+use Rattle.lt_tables.specs.Pump.{Part, StreamAt}
+use Rattle.lt_tables.specs.Schema.{Catalogue, when}
+use Rattle.lt_tables.specs.Query.{Command, Query, do_compact, do_deltas, do_flush, do_job_begin, do_job_drop, do_job_finish, do_job_step, do_page, do_pump, do_reopen, do_retain, do_retire, do_scan, do_schema, do_split, do_status}
+use Rattle.lt_tables.specs.Version.{RowVersion, seen}
+use Rattle.lt_words.specs.Reply.{Refusal, job_open, needs_reopen, no_job, worn}
+use Rattle.lt_storage.specs.Store.{Durable, IsLawfulPart, stored}
+use Rattle.lt_machine.specs.Machine.{Answer, Does, State, StepBy, asks_for_job, bad_column_asked, cat_of, compaction_asked, delta_limit, initial_headers, is_broken, is_worn, is_write, last_version_retired, long_key, not_done_yet, not_safe_asked, opened, refused, retain_fault, retired_asked, schema_refused, split_fault, too_old_asked, unknown_delta, unknown_part, unknown_stream, unknown_table_asked, unknown_version_asked, wrong_literal_asked}
+use Rattle.lt_machine.specs.Sound.{AreAtPlaces, FailedIsSound, Fronts, FrontsFrom, IsGood, IsSoundFor, KeepsGood, PendingOf, PendingOfAll, SoundPartOf, low_bounds, source_of}
 use Rattle.lt_codecs.proofs.LogLaws.{frames_prefix_free}
+use Rattle.lt_lemmas.proofs.ListFacts.{all_none, when_none}
 use Rattle.lt_laws.proofs.FrontLaws.{header_unique}
-use Rattle.lt_laws.proofs.PointLaws.{when_none}
-use Rattle.lt_laws.proofs.TableLaws.{all_none}
 use Rattle.lt_laws.proofs.SoundLaws.{opening_is_good}
 
 -- ---- the reads leave the session as it is

@@ -1,31 +1,32 @@
 -- From where a stream stands a pump takes what the stream's front has next, and all of it where what stands next stops the pump.
-use Rattle.std.proofs.Common.{List, [], ap, append-nil, append_assoc, arith, drop, inl, inr, length, refl, subst, suc, sym, take, zero, ℕ, ◌+◌, ◌++◌, ◌<◌, ◌∙◌, ◌∷◌, ◌≡◌, ◌≤◌}
+use Rattle.std.proofs.Common.{List, [], ap, append-nil, append_assoc, arith, drop, inl, inr, length, refl, subst, suc, sym, take, zero, ℕ, ◌++◌, ◌+◌, ◌<◌, ◌∙◌, ◌∷◌, ◌≡◌, ◌≤◌}
 use Rattle.std.specs.Prelude.{IsTrue, None, Option, Some, flat_map, is_none, ◌^◌}
 use Rattle.std.proofs.lemmas.Bool.{and_parts, false≢true, leb-true}
 use Rattle.std.proofs.lemmas.List.{length-append, take-append-drop, take_at}
-use Rattle.lt_model.specs.Schema.{Catalogue}
-use Rattle.lt_model.specs.Log as log
-use Rattle.lt_model.specs.Log.{Header, IsFound, IsFrame, Item, Opens, batch_item, body, change_item, checkpoint_item, close_item, header_item, is_content, is_item, is_kind, kind_byte, malformed, max_body, partial, spelled}
-use Rattle.lt_model.specs.Fair.{AllSuccessorsStand, AreSuccessors, Feed, FirstMissing, IsPrefix, SuccessorsStand, breaks, breaks_at, checkpoint_of, is_closed, point_of, stream_bytes, tiles_range}
-use Rattle.lt_model.specs.Key.{Range}
-use Rattle.lt_model.specs.Laws.{PumpLaws}
-use Rattle.lt_model.specs.Machine.{StopsBy, StreamAt, Takes, moved_by}
-use Rattle.lt_model.specs.Reply.{Stop, at_count, at_end, at_malformed, at_partial, at_successor, at_unfair}
-use Rattle.lt_model.specs.Sound.{Stands}
-use Rattle.lt_model.specs.declared.BadFrame.{BadFrame}
-use Rattle.lt_model.specs.declared.BadFrame.TheVariants as bad
-use Rattle.lt_model.specs.declared.Format.{Format}
+use Rattle.lt_terms.specs.Log.{Header, IsFound, Item, body, close_item, is_content, is_item, is_kind, kind_byte, malformed, max_body, partial, spelled}
+use Rattle.lt_terms.specs.declared.Format.{Format}
+use Rattle.lt_terms.specs.declared.BadFrame.{BadFrame}
+use Rattle.lt_terms.specs.Key.{Range}
+use Rattle.lt_world.specs.Feed.{Feed, stream_bytes}
+use Rattle.lt_tables.specs.Fair.{AllSuccessorsStand, AreSuccessors, FirstMissing, IsPrefix, SuccessorsStand, breaks, breaks_at, checkpoint_of, is_closed, point_of, tiles_range}
+use Rattle.lt_tables.specs.Schema.{Catalogue}
+use Rattle.lt_tables.specs.Pump.{Stop, StopsBy, StreamAt, Takes, at_count, at_end, at_malformed, at_partial, at_successor, at_unfair, moved_by}
+use Rattle.lt_machine.specs.Sound.{Stands}
+use Rattle.lt_machine.specs.Laws.{PumpLaws}
 use Rattle.lt_codecs.specs.Codec.{u32}
 use Rattle.lt_codecs.proofs.Codecs.{spell_apart, u32_is}
-use Rattle.lt_codecs.proofs.FoundLaws.{kind_is, whole_splits}
 use Rattle.lt_codecs.proofs.ListFacts.{heads, tails}
-use Rattle.lt_codecs.proofs.LogLaws.{frames_prefix_free}
 use Rattle.lt_codecs.proofs.LogTests.{small_limit}
+use Rattle.lt_codecs.proofs.FoundLaws.{kind_is, whole_splits}
+use Rattle.lt_codecs.proofs.LogLaws.{frames_prefix_free}
+use Rattle.lt_lemmas.proofs.PointLaws.{none, point_suffices}
+use Rattle.lt_lemmas.proofs.TakenLaws.{moved_append, takes_append, takes_grow, takes_rest}
 use Rattle.lt_laws.proofs.FrontLaws.{Front, fair_front, header_unique}
-use Rattle.lt_laws.proofs.PointLaws.{none, point_suffices}
-use Rattle.lt_laws.proofs.PumpLaws.{stands_behind}
 use Rattle.lt_laws.proofs.SoundLaws.{checkpoint-is}
-use Rattle.lt_laws.proofs.TakenLaws.{all_rest, behind_spells, moved_append, moved_behind, stream_behind, taken_goes_on, takes_append, takes_grow, takes_rest, with_items_append}
+use Rattle.lt_laws.proofs.TakenLaws.{all_rest, behind_spells, moved_behind, stream_behind, taken_goes_on, with_items_append}
+use Rattle.lt_laws.proofs.PumpLaws.{stands_behind}
+use Rattle.lt_terms.specs.Log as log
+use Rattle.lt_terms.specs.declared.BadFrame.TheVariants as bad
 
 -- ---- what stands whole is neither partial nor malformed
 

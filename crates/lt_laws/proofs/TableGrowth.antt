@@ -2,25 +2,26 @@
 use Rattle.std.proofs.Common.{Bool, List, [], ap, ap₂, arith, cond, eq-eqb, eqb-true, false, leb-true, refl, subst, sym, true, zero, ℕ, ◌∙◌, ◌∷◌, ◌≡◌}
 use Rattle.std.specs.Prelude.{Contains, IsTrue, None, Option, Some, find, flat_map, is_some, map, nat_le, not, option_and_then, option_map, ◌&&◌, ◌==◌, ◌||◌}
 use Rattle.std.specs.List.{AllByRecursion, list_all, list_any}
-use Rattle.std.specs.Option.{option_map_or}
 use Rattle.std.proofs.lemmas.Bool.{and_from, and_parts, false≢true}
-use Rattle.lt_model.specs.Value.{Value}
-use Rattle.lt_model.specs.Kind.{Kind, nesting, rank_number}
-use Rattle.lt_model.specs.Conversion.{conv}
-use Rattle.lt_model.specs.Layout.{Cell, Leaf, bool_cell, cell_to, coerce, flatten, is_unset, lacking, layout_of, leaf_cell, null_cell, same_leaf, setting, sets, unset}
-use Rattle.lt_model.specs.Log.{bit}
-use Rattle.lt_model.specs.Schema.{joined_all, Catalogue, Column, Registered, Table, carrier, carrier_layout, carriers, carriers_of, column_live, column_numbered, column_numbers, has_column, kinds_given, table_numbered}
-use Rattle.lt_model.specs.Store.{leaf_covered}
-use Rattle.lt_laws.proofs.CoerceLaws.{Cells, IsWideFor, beside, cell_for, found_beside, map_same, sets_at, unset_to, with_own}
-use Rattle.lt_laws.proofs.ConversionLemmas.{is_rising}
-use Rattle.lt_model.specs.Laws.{lies_within}
-use Rattle.lt_laws.proofs.LeafLaws.{AreColumns, IsMarked, Mark, all_marked, found_leaf, leaf_at, leaf_found, leaf_in, leaf_in_layout, leaf_is, leaf_of, mark_of}
-use Rattle.lt_laws.proofs.ListFacts.{all_at, any_held, find_held, flat_held, from_filter_map, in_map, mapped_some}
+use Rattle.std.specs.Option.{option_map_or}
+use Rattle.lt_terms.specs.Kind.{Kind, nesting, rank_number}
+use Rattle.lt_terms.specs.Layout.{Cell, Leaf, bool_cell, cell_to, coerce, flatten, is_unset, lacking, layout_of, leaf_cell, null_cell, same_leaf, sets, setting, unset}
+use Rattle.lt_terms.specs.Value.{Value}
+use Rattle.lt_terms.specs.Conversion.{conv}
+use Rattle.lt_terms.specs.Log.{bit}
+use Rattle.lt_tables.specs.Schema.{Catalogue, Column, Registered, Table, carrier, carrier_layout, carriers, carriers_of, column_live, column_numbered, column_numbers, has_column, joined_all, kinds_given, table_numbered}
+use Rattle.lt_storage.specs.Store.{leaf_covered}
+use Rattle.lt_machine.specs.Laws.{lies_within}
+use Rattle.lt_lemmas.proofs.ConversionLemmas.{is_rising}
+use Rattle.lt_lemmas.proofs.TableLaws.{IsFineTable}
+use Rattle.lt_lemmas.proofs.ListFacts.{find_held, mapped_some}
 use Rattle.lt_laws.proofs.ReadLaws.{are_fine, filter_found, has_number, kind_found, live_numbers, numbers_found}
+use Rattle.lt_laws.proofs.LeafLaws.{AreColumns, IsMarked, Mark, all_marked, found_leaf, leaf_at, leaf_found, leaf_in, leaf_in_layout, leaf_is, leaf_of, mark_of}
+use Rattle.lt_laws.proofs.ListFacts.{all_at, any_held, flat_held, from_filter_map, in_map}
 use Rattle.lt_laws.proofs.ScanLaws.{any_of}
-use Rattle.lt_laws.proofs.ScanLemmas.{IsWithin, at_carrier, leaf_cell-set, found-carrier, from-filter, kind_for, setting-map}
-use Rattle.lt_laws.proofs.TableLaws.{IsFineTable}
+use Rattle.lt_laws.proofs.ScanLemmas.{IsWithin, at_carrier, found-carrier, from-filter, kind_for, leaf_cell-set, setting-map}
 use Rattle.lt_laws.proofs.WidenLaws.{LeavesUp, cell_lacks, cell_widens}
+use Rattle.lt_laws.proofs.CoerceLaws.{Cells, IsWideFor, beside, cell_for, found_beside, map_same, sets_at, unset_to, with_own}
 
 -- ---- the columns of a table's carriers
 

@@ -1,29 +1,32 @@
 -- What a pump takes: the changes of fair items are keyed, items that were taken are a front of the stream's front, and they compose.
-use Rattle.std.proofs.Common.{Bool, List, [], ap, ap₂, append-nil, append_assoc, arith, cond, drop, false, length, ltb-true, not, refl, subst, sym, true, ℕ, ◌+◌, ◌++◌, ◌<◌, ◌∙◌, ◌∷◌, ◌≡◌, ◌≤◌}
-use Rattle.std.specs.Prelude.{find, ◌-◌, IsTrue, None, Option, Some, flat_map, fold, if◌then◌else◌, is_none, map, nat_lt, option_and_then, option_map, ◌&&◌, ◌==◌, ◌||◌, ◌^◌}
-use Rattle.std.specs.List.{AllByRecursion, list_all, list_any}
-use Rattle.std.specs.Option.{option_map_or}
+use Rattle.std.proofs.Common.{Bool, List, [], ap, append-nil, append_assoc, ap₂, arith, cond, drop, false, length, not, refl, subst, sym, true, ℕ, ◌++◌, ◌+◌, ◌<◌, ◌∙◌, ◌∷◌, ◌≡◌, ◌≤◌}
+use Rattle.std.specs.Prelude.{IsTrue, None, Option, Some, find, flat_map, fold, if◌then◌else◌, is_none, map, nat_lt, option_and_then, option_map, ◌&&◌, ◌-◌, ◌==◌, ◌^◌, ◌||◌}
+use Rattle.std.specs.List.{AllByRecursion, list_all}
 use Rattle.std.proofs.lemmas.Bool.{and_from, and_parts, not-false}
-use Rattle.std.proofs.lemmas.List.{drop-append-le, drop-drop, drop_at, length-append, length-drop}
-use Rattle.std.proofs.lemmas.List.Sums.{fold-append}
+use Rattle.std.specs.Option.{option_map_or}
+use Rattle.std.proofs.lemmas.List.{drop-drop, drop_at, length-append}
 use Rattle.std.proofs.lemmas.List.Concat.{flat_map-append}
-use Rattle.lt_model.specs.declared.Format.{Format}
-use Rattle.lt_model.specs.Value.{is_number}
-use Rattle.lt_model.specs.Key.{Range, in_range, is_key_of}
-use Rattle.lt_model.specs.Schema.{Catalogue, Column, Registered, Table, key_kinds, registered, table_numbered, when}
-use Rattle.lt_model.specs.Log.{Change, Header, Item, batch_item, change_item, change_key, changes_in, changes_of, checkpoint_item, close_item, header_item, is_change, is_content, is_item, spelled}
-use Rattle.lt_model.specs.Fair.{AllSuccessorsStand, Feed, Grows, IsPrefix, Point, SuccessorsStand, breaks, header_length, is_close, is_closed, place_after, point_after, point_of, stream_bytes, bad_shape, change_fault, changes_fault, checkpoint_of, fair_after, has_change_shape, is_fair, item_fault, out_of_range, unknown_table_number, unknown_version_number}
-use Rattle.lt_model.specs.Row.{changes_up_to, in_time, row_after, row_at, snapshot}
-use Rattle.lt_model.specs.Machine.{State, StreamAt, Takes, all_delivered, behind_header, moved_by, no_point, put_name, ranges_of, stream_at, with_items}
-use Rattle.lt_model.specs.Store.{Part}
-use Rattle.lt_model.specs.Sound.{Fronts, FrontsFrom, source_of}
-use Rattle.lt_laws.proofs.FrontLaws.{Front, begins, bytes_grow, successors_stay, points_after, fair_front, first_fair}
-use Rattle.lt_laws.proofs.PointLaws.{changes_of-append, point_suffices, or_left, or_right, when_none}
-use Rattle.lt_laws.proofs.FairLaws.{fair_in_time, key_stays_by}
+use Rattle.std.proofs.lemmas.List.Sums.{fold-append}
+use Rattle.lt_terms.specs.Log.{Change, Header, Item, batch_item, change_item, change_key, changes_in, changes_of, checkpoint_item, close_item, header_item, is_change, is_content, is_item, spelled}
+use Rattle.lt_terms.specs.declared.Format.{Format}
+use Rattle.lt_terms.specs.Value.{is_number}
+use Rattle.lt_terms.specs.Key.{Range, in_range}
+use Rattle.lt_world.specs.Feed.{Feed, stream_bytes}
+use Rattle.lt_tables.specs.Schema.{Catalogue, Column, Table, registered, table_numbered, when}
+use Rattle.lt_tables.specs.Fair.{AllSuccessorsStand, IsPrefix, SuccessorsStand, bad_shape, breaks, change_fault, changes_fault, checkpoint_of, fair_after, has_change_shape, header_length, is_close, is_closed, is_fair, item_fault, out_of_range, place_after, point_after, point_of, unknown_table_number, unknown_version_number}
+use Rattle.lt_tables.specs.Row.{AreKeyed, IsKeyed, changes_up_to, in_time, row_after, row_at, snapshot}
+use Rattle.lt_tables.specs.Pump.{Part, StreamAt, Takes, all_delivered, behind_header, moved_by, no_point, put_name}
+use Rattle.lt_machine.specs.Sound.{Fronts, FrontsFrom, source_of}
+use Rattle.lt_machine.specs.Machine.{State, ranges_of, stream_at, with_items}
+use Rattle.lt_codecs.proofs.ListFacts.{or_left, or_right}
 use Rattle.lt_codecs.proofs.LogLaws.{frames_prefix_free}
-use Rattle.lt_laws.proofs.RowLemmas.{reads_in_order}
+use Rattle.lt_lemmas.proofs.TakenLaws.{any_append, left, made_same, moved_append, number_fits, right, shape_key, spelled_length, spelled_one}
+use Rattle.lt_lemmas.proofs.ListFacts.{when_none}
+use Rattle.lt_lemmas.proofs.RowLemmas.{reads_in_order}
+use Rattle.lt_lemmas.proofs.PointLaws.{changes_of-append, point_suffices}
+use Rattle.lt_laws.proofs.FrontLaws.{Front, begins, fair_front, first_fair, points_after}
+use Rattle.lt_laws.proofs.FairLaws.{fair_in_time, key_stays_by}
 use Rattle.lt_laws.proofs.SnapshotLaws.{snapshot_by_rows}
-use Rattle.lt_model.specs.Laws.{AreKeyed, IsKeyed}
 
 -- ---- the changes of a fair list
 
@@ -88,20 +91,6 @@ lawful_changes f (i ∷ items) a = all_append (λ c. IsTrue (is_change c)) (chan
 
 -- ---- their keys are of the tables' kinds
 
-pub shape_key : (o : Option Table) (r : Option Registered) (c : Change) → option_map_or (λ t. option_map_or (λ r. has_change_shape t r c) r false) o false ≡ true → IsTrue (is_key_of (option_map_or (λ t. key_kinds t.key) o []) c.key)
-shape_key None r c e = cc
-shape_key (Some t) None c e = cc
-shape_key (Some t) (Some r) c e = (and_parts (is_key_of (key_kinds t.key) c.key) _ e).0
-
-pub left : (a b : Bool) → (a && b) ≡ true → a ≡ true
-left a b h = (and_parts a b h).0
-
-pub right : (a b : Bool) → (a && b) ≡ true → b ≡ true
-right a b h = (and_parts a b h).1
-
-pub number_fits : (n : ℕ) → IsTrue (is_number n) → n < 2 ^ 32
-number_fits n h = let l : n < 2 ^ 16 = ltb-true n (2 ^ 16) (right (nat_lt 0 n) (nat_lt n (2 ^ 16)) h) in omega (arith, l)
-
 table_fits : (c : Change) → IsTrue (is_change c) → c.table < 2 ^ 32
 table_fits c l = number_fits c.table (right _ (is_number c.table) (left _ _ (left _ _ (left _ _ (left _ _ (left _ _ (left _ _ (left _ _ (left _ _ (left _ _ l))))))))))
 
@@ -153,35 +142,9 @@ row_in_order h cat items key t f = reads_in_order (changes_of items) key t (fair
 
 -- ---- items that were taken
 
-or_false : (b : Bool) → (b || false) ≡ b
-or_false true = refl
-or_false false = refl
-
-or_assoc : (a b c : Bool) → (a || (b || c)) ≡ ((a || b) || c)
-or_assoc true b c = refl
-or_assoc false b c = refl
-
 -- a stream that stands behind some first items
 abbrev pub stream_behind : Header → List Item → StreamAt
 stream_behind h before = record { header = h; offset = place_after h before; point = point_of h before; closed = is_closed before }
-
-pub any_append : {A : Type 0} (p : A → Bool) (xs ys : List A) → list_any p (xs ++ ys) ≡ (list_any p xs || list_any p ys)
-any_append p [] ys = refl
-any_append p (x ∷ xs) ys = ap (λ b. p x || b) (any_append p xs ys) ∙ or_assoc (p x) (list_any p xs) (list_any p ys)
-
-made_same : (h : Header) (o u : ℕ) (p q : Point) (c d : Bool) → o ≡ u → p ≡ q → c ≡ d → record { header = h; offset = o; point = p; closed = c } ≡ (let a : StreamAt = record { header = h; offset = u; point = q; closed = d } in a)
-made_same h o u p q c d e f g = cc
-
-pub spelled_length : (xs ys : List Item) → length (flat_map spelled (xs ++ ys)) ≡ length (flat_map spelled xs) + length (flat_map spelled ys)
-spelled_length xs ys = ap length (flat_map-append spelled xs ys) ∙ length-append (flat_map spelled xs) (flat_map spelled ys)
-
-pub moved_none : (a : StreamAt) → moved_by [] a ≡ a
-moved_none a = made_same a.header (a.offset + 0) a.offset a.point a.point (a.closed || false) a.closed (omega arith) refl (or_false a.closed)
-
-pub moved_append : (xs ys : List Item) (a : StreamAt) → moved_by (xs ++ ys) a ≡ moved_by ys (moved_by xs a)
-moved_append xs ys a = made_same a.header (a.offset + length (flat_map spelled (xs ++ ys))) (a.offset + length (flat_map spelled xs) + length (flat_map spelled ys)) (fold point_after a.point (xs ++ ys))
-    (fold point_after (fold point_after a.point xs) ys) (a.closed || is_closed (xs ++ ys)) ((a.closed || is_closed xs) || is_closed ys) (omega (arith, spelled_length xs ys)) (fold-append point_after a.point xs ys)
-    (ap (λ b. a.closed || b) (any_append is_close xs ys) ∙ or_assoc a.closed (is_closed xs) (is_closed ys))
 
 pub begins_behind : (h : Header) → behind_header h ≡ stream_behind h []
 unfolding point_of
@@ -191,18 +154,6 @@ begins_behind h = made_same h (header_length h) (header_length h + 0) (no_point 
 pub moved_behind : (h : Header) (cat : Catalogue) (before items : List Item) → is_fair h cat (before ++ items) ≡ true → moved_by items (stream_behind h before) ≡ stream_behind h (before ++ items)
 moved_behind h cat before items f = made_same h (place_after h before + length (flat_map spelled items)) (place_after h (before ++ items)) (fold point_after (point_of h before) items) (point_of h (before ++ items))
     (is_closed before || is_closed items) (is_closed (before ++ items)) (omega (arith, spelled_length before items)) (sym (points_after h cat before items f)) (sym (any_append is_close before items))
-
-pub takes_rest : (feed : Feed) (cat : Catalogue) (a : StreamAt) (items : List Item) (rest : List ℕ) → Takes feed cat a items rest → rest ≡ drop (moved_by items a).offset (stream_bytes feed a.header.stream)
-takes_rest feed cat a [] rest t = t ∙ ap (λ (n : ℕ). drop n (stream_bytes feed a.header.stream)) (omega arith)
-takes_rest feed cat a (i ∷ items) rest t = takes_rest feed cat (moved_by (i ∷ []) a) items rest t.4 ∙ ap (λ (x : StreamAt). drop x.offset (stream_bytes feed a.header.stream)) (sym (moved_append (i ∷ []) items a))
-
--- taking goes on where it stopped
-pub takes_append : (feed : Feed) (cat : Catalogue) (a : StreamAt) (xs ys : List Item) (r rest : List ℕ) → Takes feed cat a xs r → Takes feed cat (moved_by xs a) ys rest → Takes feed cat a (xs ++ ys) rest
-takes_append feed cat a [] ys r rest t u = subst (λ (x : StreamAt). Takes feed cat x ys rest) (moved_none a) u
-takes_append feed cat a (x ∷ xs) ys r rest t u = (t.0, t.1, t.2, t.3, takes_append feed cat (moved_by (x ∷ []) a) xs ys r rest t.4 (subst (λ (s : StreamAt). Takes feed cat s ys rest) (moved_append (x ∷ []) xs a) u))
-
-spelled_one : (i : Item) → flat_map spelled (i ∷ []) ≡ spelled i
-spelled_one i = append-nil (spelled i)
 
 drop_front : (bytes front rest : List ℕ) (o n : ℕ) → drop o bytes ≡ front ++ rest → length front ≡ n → drop (o + n) bytes ≡ rest
 drop_front bytes front rest o n e l = sym (drop-drop n o bytes) ∙ ap (drop n) e ∙ drop_at front rest n l
@@ -264,27 +215,6 @@ taken_goes_on feed cat h before more items rest p t =
 -- What is taken from behind the header on is a front of the stream's front.
 pub taken_is_front : (feed : Feed) (cat : Catalogue) (h : Header) (items front : List Item) (rest : List ℕ) → IsPrefix feed cat h front → Takes feed cat (behind_header h) items rest → Front items front
 taken_is_front feed cat h items front rest p t = taken_goes_on feed cat h [] front items rest p (subst (λ (a : StreamAt). Takes feed cat a items rest) (begins_behind h) t)
-
--- ---- a longer feed: what was taken is taken, with more behind it
-
-takes_in : (feed more : Feed) (cat : Catalogue) (a : StreamAt) (items : List Item) (rest extra : List ℕ) → Grows feed more → stream_bytes more a.header.stream ≡ stream_bytes feed a.header.stream ++ extra
-    → a.offset ≤ length (stream_bytes feed a.header.stream) → Takes feed cat a items rest → Takes more cat a items (rest ++ extra)
-takes_in feed more cat a [] rest extra g e l t = ap (λ (x : List ℕ). x ++ extra) t ∙ sym (drop-append-le a.offset (stream_bytes feed a.header.stream) extra l) ∙ ap (drop a.offset) (sym e)
-takes_in feed more cat a (i ∷ items) rest extra g e l t =
-    let bytes = stream_bytes feed a.header.stream in
-    let size : length (drop a.offset bytes) ≡ length (spelled i) + length t.1.0 = ap length t.1.1 ∙ length-append (spelled i) t.1.0 in
-    let left : length (drop a.offset bytes) ≡ length bytes - a.offset = length-drop a.offset bytes in
-    let one : length (flat_map spelled (i ∷ [])) ≡ length (spelled i) = ap length (spelled_one i) in (
-      t.0,
-      (t.1.0 ++ extra, ap (drop a.offset) e ∙ drop-append-le a.offset bytes extra l ∙ ap (λ (x : List ℕ). x ++ extra) t.1.1 ∙ append_assoc (spelled i) t.1.0 extra),
-      t.2,
-      successors_stay feed more g a.header a.point.checkpoint i t.3,
-      takes_in feed more cat (moved_by (i ∷ []) a) items rest extra g e (omega (arith, l, size, left, one)) t.4,
-    )
-
-pub takes_grow : (feed more : Feed) (cat : Catalogue) (a : StreamAt) (items : List Item) (rest : List ℕ) → Grows feed more → a.offset ≤ length (stream_bytes feed a.header.stream) → Takes feed cat a items rest
-    → (extra : List ℕ) × Takes more cat a items (rest ++ extra)
-takes_grow feed more cat a items rest g l t = let b = bytes_grow feed more g a.header.stream in (b.0, takes_in feed more cat a items rest b.0 g b.1 l t)
 
 -- ---- a state after items
 

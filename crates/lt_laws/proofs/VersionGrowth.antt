@@ -1,21 +1,25 @@
 -- A lawful catalogue that got a version, or of which one was retired: each of its tables widens, and its layouts stay covered.
-use Rattle.std.proofs.Common.{Bool, List, [], ap, append-nil, arith, cond, eqb-true, false, inl, inr, length, ltb-true, ne_eqb, refl, subst, suc, sym, true, zero, ℕ, ◌+◌, ◌++◌, ◌<◌, ◌∙◌, ◌∷◌, ◌≡◌}
-use Rattle.std.specs.Prelude.{Contains, None, Option, Some, find, fold, nat_lt, ◌≢◌, if◌then◌else◌, is_none, is_some, not, option_and_then, option_map, slice_get, ◌&&◌, ◌-◌, ◌==◌, ◌||◌, ◌⊎◌}
+use Rattle.std.proofs.Common.{Bool, List, [], ap, append-nil, arith, cond, eqb-true, false, inl, inr, length, ltb-true, ne_eqb, refl, subst, suc, sym, true, zero, ℕ, ◌++◌, ◌+◌, ◌<◌, ◌∙◌, ◌∷◌, ◌≡◌}
+use Rattle.std.specs.Prelude.{Contains, None, Option, Some, find, fold, if◌then◌else◌, is_none, is_some, nat_lt, not, option_and_then, option_map, slice_get, ◌&&◌, ◌-◌, ◌==◌, ◌||◌, ◌≢◌, ◌⊎◌}
 use Rattle.std.specs.List.{AllByRecursion, cons_option, list_any}
-use Rattle.std.specs.Option.{option_map_or}
 use Rattle.std.proofs.lemmas.Bool.{and_from, eqb-false, false≢true, or_cases}
 use Rattle.std.proofs.lemmas.List.Sums.{fold-append}
-use Rattle.lt_model.specs.Kind.{Kind}
-use Rattle.lt_model.specs.Schema.{Became, RetireFault, already_retired, as_it_was, is_live, last_version, then_added, then_retired, unknown_table, unknown_version, when, Catalogue, Column, IsCatalogue, Registered, SchemaVersion, Table, after_adding, after_retiring, bare, carrier, change_at, clash, column_numbered, has_column, joined, joined_all, kinds_given, latest, live_version, new_table, nothing_yet, registered, retire_fault, retired_version, reused_column, schema_fault, table_numbered, versions_of, with_retired, with_version, without_version}
-use Rattle.lt_laws.proofs.AnswerLaws.{numbered_held}
-use Rattle.lt_laws.proofs.CatalogueLaws.{AllPast, NumbersRise, find_retired, numbers_rise, past_found, past_trans, retired_where}
-use Rattle.lt_laws.proofs.PointLaws.{when_none}
-use Rattle.lt_laws.proofs.ListFacts.{all_at, filter_map-append, find_all, find_held, find_none, none_mapped}
+use Rattle.std.specs.Option.{option_map_or}
+use Rattle.lt_terms.specs.Kind.{Kind}
+use Rattle.lt_tables.specs.Schema.{Became, Catalogue, Column, IsCatalogue, Registered, RetireFault, SchemaVersion, Table, after_adding, after_retiring, already_retired, as_it_was, bare, carrier, change_at, clash, column_numbered, has_column, is_live, joined, joined_all, kinds_given, last_version, latest, live_version, new_table, nothing_yet, registered, retire_fault, retired_version, reused_column, schema_fault, table_numbered, then_added, then_retired, unknown_table, unknown_version, versions_of, when, with_retired, with_version, without_version}
+use Rattle.lt_codecs.proofs.ListFacts.{find_none, none_mapped}
+use Rattle.lt_lemmas.proofs.TableLaws.{Follows, accepted, same_columns}
+use Rattle.lt_lemmas.proofs.ListFacts.{filter_map-append, find_all, find_held, when_none}
+use Rattle.lt_lemmas.proofs.CatalogueLaws.{AllPast, NumbersRise, numbers_rise, past_trans, retired_where}
+use Rattle.lt_lemmas.proofs.VersionGrowth.{its_number}
 use Rattle.lt_laws.proofs.ReadLaws.{or_left, or_right}
 use Rattle.lt_laws.proofs.TableGrowth.{Widens}
-use Rattle.lt_laws.proofs.TableLaws.{Follows, accepted, fold_clash, same_columns}
-use Rattle.lt_laws.proofs.CarrierLaws.{clash_bare}
 use Rattle.lt_laws.proofs.WidenLaws.{LeavesUp, leaves_up, same_leaves}
+use Rattle.lt_laws.proofs.TableLaws.{fold_clash}
+use Rattle.lt_laws.proofs.CarrierLaws.{clash_bare}
+use Rattle.lt_laws.proofs.AnswerLaws.{numbered_held}
+use Rattle.lt_laws.proofs.CatalogueLaws.{find_retired, past_found}
+use Rattle.lt_laws.proofs.ListFacts.{all_at}
 
 abbrev is_live_with : ℕ → Registered → Bool
 is_live_with n r = r.live && has_column n r
@@ -219,9 +223,6 @@ grew_retired cat number v is e = record {
 -- the table of a number, with the version where it is the version's
 abbrev pub with_added : SchemaVersion → Table → Table
 with_added v t = if t.number == v.number then with_columns t v.columns else t
-
-pub its_number : (ts : Catalogue) (n : ℕ) (t : Table) → table_numbered ts n ≡ Some t → t.number ≡ n
-its_number ts n t e = eqb-true t.number n (find_held (λ t. t.number == n) ts t e).1
 
 other_added : (v : SchemaVersion) (t : Table) → (t.number ≡ v.number → ⊥) → with_added v t ≡ t
 other_added v t ne = ap (λ (b : Bool). cond b (with_columns t v.columns) t) (ne_eqb t.number v.number ne)

@@ -2,28 +2,25 @@
 use Rattle.std.proofs.Common.{Bool, List, [], ap, ap₂, arith, cond, false, refl, subst, sym, true, ℕ, ◌∙◌, ◌∷◌, ◌≡◌, ◌≤◌}
 use Rattle.std.specs.Prelude.{IsTrue, None, Option, Some, option_and_then}
 use Rattle.std.specs.Option.{option_map_or}
-use Rattle.std.specs.Str.{is_utf8}
 use Rattle.std.proofs.lemmas.Bool.{and_parts, false≢true}
-use Rattle.lt_model.specs.declared.Rank.{Rank}
-use Rattle.lt_model.specs.Value.{Value, fits_64, bool_value, bytes_value, int_value, null_value, struct_value, text_value, value_at}
-use Rattle.lt_model.specs.Kind.{FieldKinds, Kind, enumeration, has_shape, is_struct, kind_at, kinds_of, no_kinds, plain, rank_number, structured}
-use Rattle.lt_model.specs.Conversion.{at_rank, conv}
-use Rattle.lt_model.specs.Layout.{Leaf, bool_cell, null_cell, cell_of, leaf_cell, cell_to, field_of, is_structure, value_along}
-use Rattle.lt_model.specs.Schema.{clash, clash_within, joined, joined_fields}
-use Rattle.lt_model.specs.Laws.{fields_within, lies_within}
+use Rattle.std.specs.Str.{is_utf8}
+use Rattle.lt_terms.specs.Value.{Value, bool_value, bytes_value, fits_64, int_value, null_value, struct_value, text_value, value_at}
+use Rattle.lt_terms.specs.Layout.{Leaf, bool_cell, cell_of, cell_to, field_of, is_structure, leaf_cell, null_cell, value_along}
+use Rattle.lt_terms.specs.Kind.{FieldKinds, Kind, enumeration, has_shape, is_struct, kind_at, kinds_of, no_kinds, plain, rank_number, structured}
+use Rattle.lt_terms.specs.Conversion.{at_rank, conv}
+use Rattle.lt_terms.specs.declared.Rank.{Rank}
+use Rattle.lt_tables.specs.Schema.{clash, clash_within, joined, joined_fields}
+use Rattle.lt_machine.specs.Laws.{fields_within, lies_within}
+use Rattle.lt_lemmas.proofs.WidenLaws.{conv_null}
+use Rattle.lt_lemmas.proofs.ConversionLemmas.{at_rank-null}
+use Rattle.lt_laws.proofs.ConversionLemmas.{IsAtField, bit_fits, bytes_shape, field_within, int_shape, step_bool, text_shape, through_rank, value_at-conv}
+use Rattle.lt_laws.proofs.LeafLaws.{Mark, leaf_of, mark_of}
 use Rattle.lt_laws.proofs.CarrierLaws.{clash_at, kind_at-joined, onto_older, prim_up, rank_low}
-use Rattle.lt_laws.proofs.ConversionLemmas.{IsAtField, at_rank-null, bit_fits, bytes_shape, field_within, int_shape, step_bool, text_shape, through_rank, value_at-conv}
 use Rattle.lt_laws.proofs.CoerceLaws.{cell_as, cell_set}
 use Rattle.lt_laws.proofs.FlattenLemmas.{cell_back}
-use Rattle.lt_laws.proofs.LeafLaws.{Mark, leaf_of, mark_of}
-use Rattle.lt_model.specs.declared.Rank.TheVariants as rank
+use Rattle.lt_terms.specs.declared.Rank.TheVariants as rank
 
 -- ---- a value along a path, converted
-
-pub conv_null : (k : Kind) → conv null_value k ≡ null_value
-conv_null (plain r) = at_rank-null r
-conv_null (enumeration names) = at_rank-null rank.Int32
-conv_null (structured ks) = refl
 
 pub along_none : (q : List ℕ) → value_along q null_value ≡ null_value
 along_none [] = refl

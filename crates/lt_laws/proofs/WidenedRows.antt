@@ -1,33 +1,36 @@
 -- Under a catalogue that grew by one step the changes and rows of a source are, in cells, what they were, at the new carriers.
 use Rattle.std.proofs.Common.{List, [], ap, ap₂, false, refl, subst, sym, true, ℕ, ◌∙◌, ◌∷◌, ◌≡◌}
 use Rattle.std.specs.Prelude.{IsTrue, None, Option, Some, fold, map, nat_le, option_and_then, option_map, ⊤}
-use Rattle.std.specs.List.{AllByRecursion}
 use Rattle.std.specs.Option.{option_map_or}
 use Rattle.std.proofs.lemmas.Bool.{and_parts, false≢true}
-use Rattle.lt_model.specs.declared.Op.{Op}
-use Rattle.lt_model.specs.Value.{Value}
-use Rattle.lt_model.specs.Kind.{Kind, has_shape}
-use Rattle.lt_model.specs.Key.{is_key_of, same_key}
-use Rattle.lt_model.specs.Conversion.{conv}
-use Rattle.lt_model.specs.Layout.{Cell, Leaf, coerce, flatten}
-use Rattle.lt_model.specs.Schema.{Catalogue, Column, IsCatalogue, Registered, Table, carrier, carriers, column_numbered, key_kinds, registered, sets_shape, table_numbered}
-use Rattle.lt_model.specs.Log.{Change, Header, Item, change_key}
-use Rattle.lt_model.specs.Fair.{Feed, changes_to, has_change_shape}
-use Rattle.lt_model.specs.Row.{Row, after_change, changes_up_to, row_at, row_by}
-use Rattle.lt_model.specs.Version.{RowVersion, carried, coerced, seen}
-use Rattle.lt_model.specs.Sound.{Fronts, row_cells, source_of}
+use Rattle.std.specs.List.{AllByRecursion}
+use Rattle.lt_terms.specs.Log.{Change, Header, Item, change_key}
+use Rattle.lt_terms.specs.Value.{Value}
+use Rattle.lt_terms.specs.Kind.{Kind, has_shape}
+use Rattle.lt_terms.specs.Key.{is_key_of, same_key}
+use Rattle.lt_terms.specs.Conversion.{conv}
+use Rattle.lt_terms.specs.Layout.{Cell, Leaf, coerce, flatten}
+use Rattle.lt_terms.specs.declared.Op.{Op}
+use Rattle.lt_world.specs.Feed.{Feed}
+use Rattle.lt_tables.specs.Schema.{Catalogue, Column, IsCatalogue, Registered, Table, carrier, carriers, column_numbered, key_kinds, registered, sets_shape, table_numbered}
+use Rattle.lt_tables.specs.Fair.{changes_to, has_change_shape}
+use Rattle.lt_tables.specs.Version.{RowVersion, carried, coerced, seen}
+use Rattle.lt_tables.specs.Row.{Row, after_change, changes_up_to, row_at, row_by}
+use Rattle.lt_machine.specs.Sound.{Fronts, row_cells, source_of}
+use Rattle.lt_codecs.proofs.ListFacts.{all_append, all_both}
+use Rattle.lt_lemmas.proofs.TableLaws.{fine_table}
+use Rattle.lt_lemmas.proofs.ListFacts.{all_filter}
+use Rattle.lt_lemmas.proofs.RowLemmas.{reads_in_order}
 use Rattle.lt_laws.proofs.AnswerLaws.{IsSound, sound_from}
-use Rattle.lt_laws.proofs.ListFacts.{all_append, all_both, all_filter}
-use Rattle.lt_laws.proofs.RangeLaws.{source_in_time}
+use Rattle.lt_laws.proofs.TakenLaws.{change_shaped}
+use Rattle.lt_laws.proofs.TableLaws.{carrier_stands}
 use Rattle.lt_laws.proofs.ReadLaws.{all_tests, change_within, set_shapes, shape_at}
-use Rattle.lt_laws.proofs.RowLemmas.{reads_in_order}
 use Rattle.lt_laws.proofs.ScanLemmas.{AreOf, IsWithin, at_carrier}
 use Rattle.lt_laws.proofs.TableGrowth.{IsSetIn, set_widens}
-use Rattle.lt_laws.proofs.TableLaws.{carrier_stands, fine_table}
-use Rattle.lt_laws.proofs.TakenLaws.{change_shaped}
 use Rattle.lt_laws.proofs.VersionGrowth.{Grew}
 use Rattle.lt_laws.proofs.WidenedStore.{known_carriers}
-use Rattle.lt_model.specs.declared.Op.TheVariants as ops
+use Rattle.lt_laws.proofs.RangeLaws.{source_in_time}
+use Rattle.lt_terms.specs.declared.Op.TheVariants as ops
 
 -- ---- the table and version of a fair change
 

@@ -1,30 +1,32 @@
 -- Under a catalogue that grew by one step a store holds the same: its layouts stay covered, and what it stores goes over to the new carriers.
 use Rattle.std.proofs.Common.{Bool, List, [], ap, ap₂, arith, eq-eqb, eqb-true, false, le-leb, length, refl, subst, suc, sym, true, zero, ℕ, ◌∙◌, ◌∷◌, ◌≡◌, ◌≤◌}
 use Rattle.std.specs.Prelude.{Contains, IsTrue, None, Option, Some, map, nat_le, not, ◌&&◌, ◌==◌, ◌||◌}
-use Rattle.std.specs.List.{AllByRecursion, list_all, list_any}
 use Rattle.std.specs.Option.{option_map_or}
+use Rattle.std.specs.List.{AllByRecursion, list_all, list_any}
 use Rattle.std.proofs.lemmas.Bool.{and_from, and_parts}
-use Rattle.lt_model.specs.Kind.{rank_number}
-use Rattle.lt_model.specs.Key.{Range, is_key_of, key_bytes}
-use Rattle.lt_model.specs.Layout.{Cell, Leaf, agree, are_lawful, coerce, is_unset, layout_of, same_leaf, same_truth, suits, with_cells}
-use Rattle.lt_model.specs.Log.{bit}
-use Rattle.lt_model.specs.Schema.{Catalogue, Table, carrier_layout, carriers, column_live, has_column, key_kinds, table_numbered}
-use Rattle.lt_model.specs.Version.{RowVersion, clip, coerce_all, is_version, merge}
-use Rattle.lt_model.specs.Store.{AreLawfulTables, Delta, IsKeyBytes, IsLawfulTable, TableDelta, carried_versions, deltas_of, delta_with, is_covered, leaf_covered, merged_in, table_of, versions_in}
-use Rattle.lt_laws.proofs.ClipLaws.{coerce-clip, coerce-merge}
-use Rattle.lt_laws.proofs.CoerceLaws.{AreFit, IsServed, coerce_twice, suits_rank}
+use Rattle.lt_terms.specs.Layout.{Cell, Leaf, agree, are_lawful, coerce, is_unset, layout_of, same_leaf, same_truth, suits, with_cells}
+use Rattle.lt_terms.specs.Kind.{rank_number}
+use Rattle.lt_terms.specs.Log.{bit}
+use Rattle.lt_terms.specs.Key.{Range, is_key_of, key_bytes}
+use Rattle.lt_tables.specs.Schema.{Catalogue, Table, carrier_layout, carriers, column_live, has_column, key_kinds, table_numbered}
+use Rattle.lt_tables.specs.Version.{RowVersion, clip, coerce_all, is_version, merge}
+use Rattle.lt_storage.specs.Store.{AreLawfulTables, Delta, IsKeyBytes, IsLawfulTable, TableDelta, carried_versions, delta_with, deltas_of, is_covered, leaf_covered, merged_in, table_of, versions_in}
+use Rattle.lt_codecs.proofs.ListFacts.{all_map}
+use Rattle.lt_lemmas.proofs.SoundLaws.{pick}
+use Rattle.lt_lemmas.proofs.TableLaws.{IsFineTable, fine_table}
+use Rattle.lt_lemmas.proofs.VersionGrowth.{its_number}
+use Rattle.lt_lemmas.proofs.TakenLaws.{left, right}
+use Rattle.lt_lemmas.proofs.ListFacts.{all_from, find_held}
+use Rattle.lt_laws.proofs.TableGrowth.{Widens, are_columns, cols, covered_wide, in_cols, kind_of_leaf, leaf_in_cols, only_right}
 use Rattle.lt_laws.proofs.LeafLaws.{IsMarked, Mark, all_marked, leaf_at, leaf_in, leaf_in_layout, leaf_same}
-use Rattle.lt_laws.proofs.ListFacts.{all_at, all_from, all_map, find_held, from_filter_map}
-use Rattle.lt_laws.proofs.ReadLaws.{all_tests, or_left, or_right}
-use Rattle.lt_laws.proofs.ScanLaws.{any_of}
 use Rattle.lt_laws.proofs.ScanLemmas.{found-carrier, kind_for}
-use Rattle.lt_laws.proofs.ReadLaws.{live_numbers}
-use Rattle.lt_laws.proofs.SoundLaws.{pick}
-use Rattle.lt_laws.proofs.TableGrowth.{only_right, Widens, are_columns, cols, covered_wide, in_cols, kind_of_leaf, leaf_in_cols}
-use Rattle.lt_laws.proofs.TakenLaws.{left, right}
-use Rattle.lt_laws.proofs.TableLaws.{IsFineTable, fine_table}
-use Rattle.lt_laws.proofs.VersionGrowth.{Grew, its_number}
+use Rattle.lt_laws.proofs.ReadLaws.{all_tests, live_numbers, or_left, or_right}
+use Rattle.lt_laws.proofs.ScanLaws.{any_of}
+use Rattle.lt_laws.proofs.VersionGrowth.{Grew}
+use Rattle.lt_laws.proofs.CoerceLaws.{AreFit, IsServed, coerce_twice, suits_rank}
+use Rattle.lt_laws.proofs.ListFacts.{all_at, from_filter_map}
 use Rattle.lt_laws.proofs.WidenLaws.{presence_bool}
+use Rattle.lt_laws.proofs.ClipLaws.{coerce-clip, coerce-merge}
 
 -- ---- the carriers of a known table
 

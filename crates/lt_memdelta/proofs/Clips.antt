@@ -6,9 +6,9 @@ use Rattle.std.specs.declared.cmp.Reverse.{Reverse}
 use Rattle.std.specs.declared.ops.Bound.TheVariants.{Excluded, Included, Unbounded}
 use Rattle.std.specs.BTreeMap.Range.{entries_between, range_contains}
 use Rattle.std.proofs.lemmas.Cmp.{nat_list_cmp_total}
-use Rattle.lt_model.specs.Key.{Range, below, bytes_cmp, in_range}
-use Rattle.lt_model.specs.Version.{RowVersion, clip}
-use Rattle.lt_laws.proofs.ClipLaws.{key-trans}
+use Rattle.lt_terms.specs.Key.{Range, below, bytes_cmp, in_range}
+use Rattle.lt_tables.specs.Version.{RowVersion, clip}
+use Rattle.lt_lemmas.proofs.ClipLaws.{key-trans}
 use Rattle.lt_memdelta.specs.Groups.{rows_from}
 use Rattle.lt_memdelta.specs.Stamps.{rows_of, version_at, versions_at}
 use Rattle.lt_memdelta.specs.declared.change.Change.{Change}

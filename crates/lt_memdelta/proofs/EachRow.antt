@@ -4,10 +4,10 @@ use Rattle.std.specs.Prelude.{Bool, IsTrue, Some, cond, filter, not, option_map,
 use Rattle.std.specs.List.{AllByRecursion, list_all}
 use Rattle.std.proofs.lemmas.Bool.{and_from}
 use Rattle.std.proofs.lemmas.Bool.Decides.{nat_tests}
-use Rattle.lt_laws.proofs.ListFacts.{all_filter}
-use Rattle.lt_model.specs.Outside.{first_version}
-use Rattle.lt_model.specs.Key.{same_key}
-use Rattle.lt_model.specs.Version.{RowVersion, put_version, same_name, stands_before}
+use Rattle.lt_lemmas.proofs.ListFacts.{all_filter}
+use Rattle.lt_tables.specs.Version.{first_version}
+use Rattle.lt_terms.specs.Key.{same_key}
+use Rattle.lt_tables.specs.Version.{RowVersion, put_version, same_name, stands_before}
 use Rattle.lt_version.specs.View.{Name, name_of}
 use Rattle.lt_memdelta.specs.Deltas.{EachRow, group_rows, is_group, is_kept, put_in, regrouped, with_rows}
 use Rattle.lt_memdelta.specs.declared.group.Group.{Group}

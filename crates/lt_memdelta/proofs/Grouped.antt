@@ -5,8 +5,8 @@ use Rattle.std.specs.List.{AllByRecursion, list_all, position, position_or_len}
 use Rattle.std.specs.Option.{option_map_or}
 use Rattle.std.proofs.lemmas.Bool.Decides.{nat_tests}
 use Rattle.std.proofs.lemmas.List.Quantifiers.{position-Some}
-use Rattle.lt_model.specs.Key.{below}
-use Rattle.lt_model.specs.Version.{RowVersion, put_version, same_name, stands_before}
+use Rattle.lt_terms.specs.Key.{below}
+use Rattle.lt_tables.specs.Version.{RowVersion, put_version, same_name, stands_before}
 use Rattle.lt_memdelta.specs.Deltas.{group_rows, is_group, is_kept, put_in, total, with_rows}
 use Rattle.lt_memdelta.specs.Groups.{has_rows, rows_below, rows_from}
 use Rattle.lt_memdelta.specs.declared.group.Group.{Group}

@@ -5,4 +5,3 @@ pub mod Puts
 pub mod Splits
 pub mod Steps
 pub mod Takes
-pub mod Tested

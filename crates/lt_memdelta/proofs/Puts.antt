@@ -9,9 +9,9 @@ use Rattle.std.specs.Ordering.{is_eq, is_lt, nat_cmp, match_ordering}
 use Rattle.std.specs.declared.cmp.Reverse.{Reverse}
 use Rattle.std.proofs.lemmas.Bool.Decides.{nat_tests}
 use Rattle.std.proofs.lemmas.Cmp.{nat_list_cmp_total, tied_itself}
-use Rattle.lt_model.specs.Key.{bytes_cmp}
-use Rattle.lt_model.specs.Version.{RowVersion, put_version, same_name, stands_before}
-use Rattle.lt_laws.proofs.MergeLaws.{same-key}
+use Rattle.lt_terms.specs.Key.{bytes_cmp}
+use Rattle.lt_tables.specs.Version.{RowVersion, put_version, same_name, stands_before}
+use Rattle.lt_lemmas.proofs.MergeLaws.{same-key}
 use Rattle.lt_memdelta.specs.Stamps.{Stamps, later, rows_of, stamped, version_at, versions_at}
 use Rattle.lt_memdelta.specs.declared.change.Change.{Change}
 

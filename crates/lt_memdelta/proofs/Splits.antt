@@ -4,16 +4,16 @@ use Rattle.std.specs.Prelude.{Bool, IfNone, IfSome, IsTrue, None, Option, Some, 
 use Rattle.std.specs.List.{All}
 use Rattle.std.specs.Map.{keys_of}
 use Rattle.std.specs.Ordering.{is_lt, ordering_reverse}
-use Rattle.lt_model.specs.Key.{below, bytes_cmp, same_key}
-use Rattle.lt_model.specs.Version.{RowVersion, is_ordered, put_version, same_name, stands_before}
+use Rattle.lt_terms.specs.Key.{below, bytes_cmp, same_key}
+use Rattle.lt_tables.specs.Version.{RowVersion, is_ordered, put_version, same_name, stands_before}
 use Rattle.std.proofs.Math.Seq.{get_or-append_seam}
 use Rattle.std.proofs.lemmas.Bool.{and_from, and_parts}
 use Rattle.std.proofs.lemmas.Cmp.{nat_list_cmp_total}
 use Rattle.std.proofs.lemmas.Option.{get_or_from_slice_get}
-use Rattle.lt_laws.proofs.MergeLaws.{Above, before-not, ordered-above, ordered-tail, same-back, same-not-before}
+use Rattle.lt_lemmas.proofs.MergeLaws.{Above, before-not, ordered-above, ordered-tail, same-back, same-not-before}
 use Rattle.lt_memdelta.specs.Groups.{rows_below}
 use Rattle.lt_memdelta.specs.Stamps.{rows_of, versions_at}
-use Rattle.lt_laws.proofs.ClipLaws.{key-trans}
+use Rattle.lt_lemmas.proofs.ClipLaws.{key-trans}
 use Rattle.lt_memdelta.proofs.Clips.{test-own}
 use Rattle.lt_memdelta.proofs.Puts.{Held, key-equal}
 

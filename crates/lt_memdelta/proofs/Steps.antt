@@ -2,13 +2,13 @@
 use Rattle.std.proofs.Common.{◌≡◌, ℕ, List, [], ◌∷◌, sym, ap, subst, ◌∙◌, length, drop, arith, true, false}
 use Rattle.std.specs.Prelude.{Bool, IsTrue, MatchOption, None, Option, Some, cond, option_map, slice_get, unwrap_or, ◌<◌}
 use Rattle.std.specs.List.{AllByRecursion}
-use Rattle.lt_model.specs.Key.{Range, in_range}
+use Rattle.lt_terms.specs.Key.{Range, in_range}
 use Rattle.std.proofs.lemmas.Option.{slice_get-map}
 use Rattle.lt_core.specs.View.{view_scalar}
 use Rattle.lt_core.specs.declared.leaf.Scalar.{Scalar}
-use Rattle.lt_model.specs.Layout.{Leaf, unset}
-use Rattle.lt_model.specs.Version.{AreVersions, RowVersion, clip, is_ordered, is_version}
-use Rattle.lt_laws.proofs.MergeLaws.{clip-ordered, ordered-tail}
+use Rattle.lt_terms.specs.Layout.{Leaf, unset}
+use Rattle.lt_tables.specs.Version.{AreVersions, RowVersion, clip, is_ordered, is_version}
+use Rattle.lt_lemmas.proofs.MergeLaws.{clip-ordered, ordered-tail}
 use Rattle.lt_version.specs.View.{first_cell}
 use Rattle.lt_memdelta.specs.Walks.{items_rest, view_item, walk_rest}
 use Rattle.lt_memdelta.specs.declared.change.Item.{Item}

@@ -7,9 +7,9 @@ use Rattle.std.specs.Ordering.{is_eq, nat_cmp}
 use Rattle.std.specs.declared.cmp.Reverse.{Reverse}
 use Rattle.std.proofs.lemmas.Bool.{and_from}
 use Rattle.std.proofs.lemmas.Bool.Decides.{nat_tests}
-use Rattle.lt_model.specs.Key.{bytes_cmp, same_key}
-use Rattle.lt_model.specs.Version.{RowVersion, is_ordered, stands_before}
-use Rattle.lt_laws.proofs.MergeLaws.{Above, named-key, named-ts, ordered-above, ordered-tail, same-itself, same-key, same-not-before}
+use Rattle.lt_terms.specs.Key.{bytes_cmp, same_key}
+use Rattle.lt_tables.specs.Version.{RowVersion, is_ordered, stands_before}
+use Rattle.lt_lemmas.proofs.MergeLaws.{Above, named-key, named-ts, ordered-above, ordered-tail, same-itself, same-key, same-not-before}
 use Rattle.lt_memdelta.specs.Groups.{has_name, without}
 use Rattle.lt_memdelta.specs.Stamps.{Stamps, later, rows_of, stamped, version_at, versions_at}
 use Rattle.lt_memdelta.specs.declared.change.Change.{Change}

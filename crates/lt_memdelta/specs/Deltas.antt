@@ -3,7 +3,7 @@ use Rattle.std.specs.Prelude.{Bool, List, [], filter, find, if◌then◌else◌,
 use Rattle.std.specs.Int.{from_be_bytes, w32}
 use Rattle.std.specs.List.{AllByRecursion}
 use Rattle.std.specs.Option.{option_map_or}
-use Rattle.lt_model.specs.Version.{RowVersion, put_version}
+use Rattle.lt_tables.specs.Version.{RowVersion, put_version}
 use Rattle.lt_memdelta.specs.declared.group.Group.{Group}
 use Rattle.lt_memdelta.specs.Groups.{has_rows}
 

@@ -1,7 +1,7 @@
 -- Lists of row versions: without one of them, and the two sides of a key.
 use Rattle.std.specs.Prelude.{Bool, List, [], false, filter, not, true, ℕ, ◌&&◌, ◌==◌, ◌∷◌}
-use Rattle.lt_model.specs.Key.{below, same_key}
-use Rattle.lt_model.specs.Version.{RowVersion}
+use Rattle.lt_terms.specs.Key.{below, same_key}
+use Rattle.lt_tables.specs.Version.{RowVersion}
 
 -- whether it is the version of this key and timestamp
 abbrev pub has_name : List ℕ → ℕ → RowVersion → Bool

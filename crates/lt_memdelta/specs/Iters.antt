@@ -1,8 +1,8 @@
 -- What the iterator over a group has.
 use Rattle.std.specs.Prelude.{List}
 use Rattle.lt_core.specs.View.{view_layout}
-use Rattle.lt_model.specs.Layout.{Leaf}
-use Rattle.lt_model.specs.Version.{RowVersion}
+use Rattle.lt_terms.specs.Layout.{Leaf}
+use Rattle.lt_tables.specs.Version.{RowVersion}
 use Rattle.lt_memdelta.specs.Walks.{items_rest}
 use Rattle.lt_memdelta.specs.declared.mem_iter.MemIter.{MemIter}
 

@@ -3,4 +3,3 @@ pub mod Groups
 pub mod Deltas
 pub mod Walks
 pub mod Iters
-pub mod Tested

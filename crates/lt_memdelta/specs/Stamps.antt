@@ -5,7 +5,7 @@ use Rattle.std.specs.declared.cmp.Reverse.{Reverse}
 use Rattle.std.specs.Ordering.{nat_cmp}
 use Rattle.std.specs.BTreeMap.{BTreeMap}
 use Rattle.lt_core.specs.View.{view_cells}
-use Rattle.lt_model.specs.Version.{RowVersion}
+use Rattle.lt_tables.specs.Version.{RowVersion}
 use Rattle.lt_memdelta.specs.declared.change.Change.{Change}
 
 abbrev pub Stamps : Type 0

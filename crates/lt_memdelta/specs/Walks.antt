@@ -1,6 +1,6 @@
 -- What is left of a walk over versions.
 use Rattle.std.specs.Prelude.{List, None, Option, Some, [], length, ℕ, ◌++◌, ◌∷◌}
-use Rattle.lt_model.specs.Version.{RowVersion}
+use Rattle.lt_tables.specs.Version.{RowVersion}
 use Rattle.lt_core.specs.View.{view_cells}
 use Rattle.lt_memdelta.specs.Stamps.{Stamps, rows_of, versions_at}
 use Rattle.lt_memdelta.specs.declared.change.Item.{Item}

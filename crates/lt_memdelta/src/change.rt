@@ -8,7 +8,7 @@ ghost use Rattle.lt_memdelta.specs.Stamps.{later, stamped};
 ghost use Rattle.lt_memdelta.specs.Walks.{view_item};
 
 use lt_core::{Cells, KeyBytes, Memory, Ts};
-use lt_model::Op;
+use lt_terms::Op;
 use lt_version::RowVersion;
 use std::alloc::Global;
 use std::cmp::Reverse;

@@ -3,7 +3,7 @@
 ghost use Rattle.std.specs.Prelude.{IfOk, IsTrue, OnErr, OnOk, ◌≡◌, ◌+◌, ◌≤◌, ◌<◌, ◌^◌, length, filter, map};
 ghost use Rattle.std.specs.List.{position};
 ghost use Rattle.lt_core.specs.View.{view_range};
-ghost use Rattle.lt_model.specs.Version.{clip, is_ordered};
+ghost use Rattle.lt_tables.specs.Version.{clip, is_ordered};
 ghost use Rattle.lt_version.specs.View.{view_version};
 ghost use Rattle.lt_memdelta.specs.Deltas as deltas;
 ghost use Rattle.lt_memdelta.specs.Walks.{walk_rest};

@@ -3,8 +3,8 @@
 ghost use Rattle.std.specs.Prelude.{◌≡◌, ◌+◌, ◌<◌, [], false, IsTrue, IfSome, None, if◌then◌else◌, length, OnOk, OnErr};
 ghost use Rattle.std.specs.BTreeMap.{get};
 ghost use Rattle.lt_core.specs.View.{view_range};
-ghost use Rattle.lt_model.specs.Key.{bytes_cmp};
-ghost use Rattle.lt_model.specs.Version.{clip, is_ordered, put_version};
+ghost use Rattle.lt_terms.specs.Key.{bytes_cmp};
+ghost use Rattle.lt_tables.specs.Version.{clip, is_ordered, put_version};
 ghost use Rattle.lt_version.specs.View.{view_version};
 ghost use Rattle.lt_memdelta.specs.Groups.{rows_below, rows_from, without};
 ghost use Rattle.lt_memdelta.specs.Stamps.{rows_of, stamped, version_at};
@@ -40,7 +40,8 @@ fn put_key(
     change: Change,
 ) -> Result<(), Memory>
     requires { get bytes_cmp keys.old key ≡ None }
-    ensures ok { OnOk result (rows_of keys.new.entries ≡ put_version (version_at key (stamped ts, change)) (rows_of keys.old.entries)) }
+    ensures ok { OnOk result (rows_of keys.new.entries ≡ put_version (version_at key (stamped ts, change))
+        (rows_of keys.old.entries)) }
     ensures err { OnErr result (rows_of keys.new.entries ≡ rows_of keys.old.entries) }
 {
     let stamps = one_stamp(alloc, ts, change)?;

@@ -7,8 +7,6 @@ mod keys;
 mod mem_delta;
 mod mem_iter;
 mod rows;
-#[cfg(test)]
-mod tests;
 mod walk;
 
 pub use change::Change;

@@ -5,7 +5,7 @@
 ghost use Rattle.std.specs.Prelude.{◌≡◌, ◌≤◌, [], IsTrue, length, not, option_map, slice_get, IfOk, OnOk, OnErr};
 ghost use Rattle.std.specs.List.{AllByRecursion, list_all};
 ghost use Rattle.lt_core.specs.View.{view_layout, view_range};
-ghost use Rattle.lt_model.specs.Version.{clip, is_version, same_name};
+ghost use Rattle.lt_tables.specs.Version.{clip, is_version, same_name};
 ghost use Rattle.lt_version.specs.View.{view_version};
 ghost use Rattle.lt_memdelta.specs.Deltas.{group_rows, put_in as put_in_group, regrouped, shape_of, table_in, total};
 ghost use Rattle.lt_memdelta.specs.Groups.{rows_below, rows_from, without};
@@ -55,7 +55,8 @@ impl MemDelta {
     /// An `Err` changes nothing.
     pub fn put(&mut self, version: u32, row: RowVersion) -> Result<(), Memory>
         requires table { 4 ≤ length row.key }
-        requires fresh { IsTrue (list_all (λ w. not (same_name (view_version row) w)) (group_rows (table_in row.key) version self.old)) }
+        requires fresh { IsTrue (list_all (λ w. not (same_name (view_version row) w))
+            (group_rows (table_in row.key) version self.old)) }
         ensures ok { OnOk result (self.new ≡ put_in_group (table_in row.key) version (view_version row) self.old) }
         ensures err { OnErr result (self.new ≡ self.old) }
     {
@@ -100,7 +101,8 @@ impl MemDelta {
         range: &'a Range,
         layout: &'a Layout,
     ) -> MemIter<'a>
-        requires { AllByRecursion (λ v. IsTrue (is_version (view_layout layout.now) v)) (group_rows table version self.now) }
+        requires { AllByRecursion (λ v. IsTrue (is_version (view_layout layout.now) v))
+            (group_rows table version self.now) }
         ensures leaves { leaves_of result ≡ view_layout layout.now }
         ensures rest { iter_rest result ≡ clip (view_range range.now) (group_rows table version self.now) }
     {

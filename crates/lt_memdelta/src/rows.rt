@@ -5,7 +5,7 @@
 
 ghost use Rattle.std.specs.Prelude.{◌≡◌, ◌+◌, [], IsTrue, if◌then◌else◌, length, IfOk, OnOk, OnErr};
 ghost use Rattle.lt_core.specs.View.{view_range};
-ghost use Rattle.lt_model.specs.Version.{clip, is_ordered, put_version};
+ghost use Rattle.lt_tables.specs.Version.{clip, is_ordered, put_version};
 ghost use Rattle.lt_version.specs.View.{view_version};
 ghost use Rattle.lt_memdelta.specs.Groups.{has_rows, rows_below, rows_from, without};
 ghost use Rattle.lt_memdelta.specs.Walks.{walk_rest};
@@ -28,9 +28,9 @@ pub struct Rows {
 impl Model for Rows {
     ghost use Rattle.std.specs.Prelude.{IsTrue, List as Listed};
     ghost use Rattle.std.specs.Coded.{coded_list};
-    ghost use Rattle.lt_model.specs.ModelCodes.{coded_row_version};
-    ghost use Rattle.lt_model.specs.Version as model;
-    ghost use Rattle.lt_model.specs.Version.{is_ordered};
+    ghost use Rattle.lt_tables.specs.Coded.{coded_row_version};
+    ghost use Rattle.lt_tables.specs.Version as model;
+    ghost use Rattle.lt_tables.specs.Version.{is_ordered};
     ghost use Rattle.lt_memdelta.specs.Stamps.{rows_of};
 
     ghost Value = { Listed model.RowVersion };

@@ -46,7 +46,8 @@ impl<'a> Walk<'a> {
 
     /// The next version.
     pub(crate) fn next(&mut self) -> Option<Item<'a>>
-        ensures { MatchOption result ((walk_rest self.old ≡ []) × (walk_rest self.new ≡ [])) (λ item. walk_rest self.old ≡ view_item item ∷ walk_rest self.new) }
+        ensures { MatchOption result ((walk_rest self.old ≡ [])
+            × (walk_rest self.new ≡ [])) (λ item. walk_rest self.old ≡ view_item item ∷ walk_rest self.new) }
     {
         'keys: loop {
             if let Some(item) = next_stamp(&mut self.keyed) {
@@ -81,7 +82,8 @@ impl<'a> Walk<'a> {
 
 /// The next version of one key.
 fn next_stamp<'a>(keyed: &mut Option<Keyed<'a>>) -> Option<Item<'a>>
-    ensures { MatchOption result ((keyed_rest keyed.old ≡ []) × (keyed_rest keyed.new ≡ [])) (λ item. keyed_rest keyed.old ≡ view_item item ∷ keyed_rest keyed.new) }
+    ensures { MatchOption result ((keyed_rest keyed.old ≡ [])
+        × (keyed_rest keyed.new ≡ [])) (λ item. keyed_rest keyed.old ≡ view_item item ∷ keyed_rest keyed.new) }
 {
     let keyed = keyed.as_mut()?;
     let (stamp, change) = keyed.stamps.next()?;

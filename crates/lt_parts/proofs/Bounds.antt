@@ -4,10 +4,10 @@ use Rattle.std.specs.Prelude.{IsTrue, nat_lt, not, slice_get}
 use Rattle.std.specs.List.Sorted.{IsPartitionPoint, IsPartitionedBy}
 use Rattle.std.proofs.lemmas.Bool.{and_parts, cases_lt, false≢true}
 use Rattle.std.proofs.lemmas.Option.{get_or_from_slice_get, none-some, same_Some, slice_get-get_or, slice_get_within}
-use Rattle.lt_model.specs.Key.{below, rise}
-use Rattle.lt_laws.proofs.PointLaws.{below_trans}
-use Rattle.lt_laws.proofs.SoundLaws.{pick}
-use Rattle.lt_laws.proofs.SplitLaws.{not_below_itself, not_below_trans, rise_rest}
+use Rattle.lt_terms.specs.Key.{below, rise}
+use Rattle.lt_lemmas.proofs.PointLaws.{below_trans}
+use Rattle.lt_lemmas.proofs.SoundLaws.{pick}
+use Rattle.lt_lemmas.proofs.SplitLaws.{not_below_itself, not_below_trans, rise_rest}
 use Rattle.lt_parts.specs.declared.entry.PartEntry.{PartEntry}
 use Rattle.lt_parts.specs.Parts.{lows_of}
 

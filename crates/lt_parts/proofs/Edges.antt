@@ -4,10 +4,10 @@ use Rattle.std.specs.Prelude.{IsTrue, nat_le, option_map, slice_get}
 use Rattle.std.specs.Option.{option_or}
 use Rattle.std.proofs.lemmas.Bool.{cases_order, false≢true, lt-leb}
 use Rattle.std.proofs.lemmas.Option.{same_Some}
-use Rattle.lt_model.specs.Key.{below, rise, same_key}
-use Rattle.lt_model.specs.Schema.{when}
-use Rattle.lt_laws.proofs.PointLaws.{above, same, swapped}
-use Rattle.lt_laws.proofs.SplitLaws.{not_below_itself}
+use Rattle.lt_terms.specs.Key.{below, rise, same_key}
+use Rattle.lt_tables.specs.Schema.{when}
+use Rattle.lt_lemmas.proofs.PointLaws.{above, same, swapped}
+use Rattle.lt_lemmas.proofs.SplitLaws.{not_below_itself}
 use Rattle.lt_parts.specs.declared.entry.PartEntry.{PartEntry}
 use Rattle.lt_parts.specs.declared.refusal.SplitRefusal.TheVariants as refusals
 use Rattle.lt_parts.specs.Parts.{HasKey, edge_in, lows_of, split_fault}

@@ -6,9 +6,9 @@ use Rattle.std.proofs.lemmas.Bool.{and_from, and_parts}
 use Rattle.std.proofs.lemmas.List.{length-set, length-take-le}
 use Rattle.std.proofs.lemmas.List.Edits.{length-insert}
 use Rattle.std.proofs.lemmas.Option.{none-some, same_Some, slice_get_within}
-use Rattle.lt_model.specs.Key.{below, first_bound, is_below_high, rise, tile}
-use Rattle.lt_model.specs.Schema.{change_at}
-use Rattle.lt_laws.proofs.SplitLaws.{rise_first, rise_rest}
+use Rattle.lt_terms.specs.Key.{below, first_bound, is_below_high, rise, tile}
+use Rattle.lt_tables.specs.Schema.{change_at}
+use Rattle.lt_lemmas.proofs.SplitLaws.{rise_first, rise_rest}
 use Rattle.lt_parts.specs.declared.entry.PartEntry.{PartEntry}
 use Rattle.lt_parts.specs.Parts.{AreParts, HasKey, IsSplit, lows_of, with_times}
 use Rattle.lt_parts.specs.Search.{IsInner}

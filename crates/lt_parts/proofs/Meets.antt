@@ -2,9 +2,9 @@
 use Rattle.std.proofs.Common.{List, None, Option, Some, ap, arith, false, inl, inr, length, lt-ltb, ltb-true, refl, subst, suc, sym, true, ℕ, ◌<◌, ◌∙◌, ◌≡◌, ◌≤◌}
 use Rattle.std.specs.Prelude.{IsTrue, nat_lt, not, slice_get, ◌↔◌}
 use Rattle.std.proofs.lemmas.Bool.{and_from, and_parts, cases_lt, false≢true}
-use Rattle.lt_model.specs.Key.{Range, below, is_below_high, meets, rise}
-use Rattle.lt_laws.proofs.SoundLaws.{meets-by, not-true, pick}
-use Rattle.lt_laws.proofs.SplitLaws.{meets_some, not_below_itself}
+use Rattle.lt_terms.specs.Key.{Range, below, is_below_high, meets, rise}
+use Rattle.lt_lemmas.proofs.SoundLaws.{meets-by, not-true, pick}
+use Rattle.lt_lemmas.proofs.SplitLaws.{meets_some, not_below_itself}
 use Rattle.lt_parts.specs.declared.entry.PartEntry.{PartEntry}
 use Rattle.lt_parts.specs.Parts.{HasKey, Meeting, lows_of}
 use Rattle.lt_parts.proofs.Bounds.{lows_rise, not_above, up_to_below}

@@ -3,8 +3,8 @@ use Rattle.std.proofs.Common.{Bool, List, None, Option, Some, [], ap, arith, con
 use Rattle.std.specs.Prelude.{IfNone, IfSome, find, nat_lt, option_map, slice_get, zip, ◌&&◌}
 use Rattle.std.proofs.lemmas.Bool.{and_from, and_parts, false≢true}
 use Rattle.std.proofs.lemmas.Option.{none-some, same_Some, slice_get-map}
-use Rattle.lt_model.specs.Key.{Range, meets}
-use Rattle.lt_model.specs.Machine.{numbered_from}
+use Rattle.lt_terms.specs.Key.{Range, meets}
+use Rattle.lt_tables.specs.Pump.{numbered_from}
 use Rattle.lt_parts.specs.declared.entry.PartEntry.{PartEntry}
 use Rattle.lt_parts.specs.Parts.{Meeting, checkpoints_of, first_below_in, ranges}
 use Rattle.lt_parts.specs.Search.{IsFirstBelow, NoneBelow}

@@ -3,12 +3,12 @@ use Rattle.std.proofs.Common.{Bool, List, None, Option, Some, [], ap, arith, con
 use Rattle.std.specs.Prelude.{IsTrue, nat_lt, not, option_map, slice_get, ◌==◌}
 use Rattle.std.proofs.lemmas.Bool.{and_from, and_parts, cases_order, false≢true}
 use Rattle.std.proofs.lemmas.Option.{none-some, same_Some, slice_get_cases, slice_get_within}
-use Rattle.lt_model.specs.Key.{Range, below, first_bound, in_range, is_below_high, rise, tile}
-use Rattle.lt_model.specs.Machine.{part_of}
-use Rattle.lt_laws.proofs.ListFacts.{mapped_some}
-use Rattle.lt_laws.proofs.RangeLaws.{tile_rises}
-use Rattle.lt_laws.proofs.SoundLaws.{not-true}
-use Rattle.lt_laws.proofs.PointLaws.{below_trans}
+use Rattle.lt_terms.specs.Key.{Range, below, first_bound, in_range, is_below_high, rise, tile}
+use Rattle.lt_tables.specs.Pump.{part_of}
+use Rattle.lt_lemmas.proofs.ListFacts.{mapped_some}
+use Rattle.lt_lemmas.proofs.RangeLaws.{tile_rises}
+use Rattle.lt_lemmas.proofs.SoundLaws.{not-true}
+use Rattle.lt_lemmas.proofs.PointLaws.{below_trans}
 use Rattle.lt_parts.specs.declared.entry.PartEntry.{PartEntry}
 use Rattle.lt_parts.specs.Parts.{HasKey, lows_of, ranges}
 use Rattle.lt_parts.proofs.Bounds.{is_false, lows_rise, untrue}

@@ -3,9 +3,9 @@ use Rattle.std.specs.Prelude.{IsTrue, List, None, Option, Some, [], find, length
 use Rattle.std.specs.Borrow.{Bor}
 use Rattle.std.specs.List.{AllByRecursion}
 use Rattle.std.specs.Option.{option_copied, option_or}
-use Rattle.lt_model.specs.Key.{Range, in_range, meets, ranges_from, same_key, tile}
-use Rattle.lt_model.specs.Machine.{numbered_from}
-use Rattle.lt_model.specs.Schema.{when}
+use Rattle.lt_terms.specs.Key.{Range, in_range, meets, ranges_from, same_key, tile}
+use Rattle.lt_tables.specs.Pump.{numbered_from}
+use Rattle.lt_tables.specs.Schema.{when}
 use Rattle.lt_parts.specs.declared.entry.PartEntry.{PartEntry}
 use Rattle.lt_parts.specs.declared.refusal.SplitRefusal.{SplitRefusal}
 use Rattle.lt_parts.specs.declared.refusal.SplitRefusal.TheVariants as refusals

@@ -1,6 +1,6 @@
 -- How partitions are gone over for their checkpoints, and where one may be split.
 use Rattle.std.specs.Prelude.{IsTrue, List, Some, length, slice_get, ℕ, ◌<◌, ◌≡◌, ◌≤◌}
-use Rattle.lt_model.specs.Key.{below}
+use Rattle.lt_terms.specs.Key.{below}
 use Rattle.lt_parts.specs.declared.entry.PartEntry.{PartEntry}
 use Rattle.lt_parts.specs.Parts.{HasKey}
 

@@ -6,8 +6,6 @@ mod entry;
 mod map;
 mod refusal;
 mod search;
-#[cfg(test)]
-mod tests;
 
 pub use entry::PartEntry;
 pub use map::{MAX_PARTS, PartMap};

@@ -5,8 +5,8 @@
 
 ghost use Rattle.std.specs.Prelude.{◌≡◌, ◌≤◌, ◌<◌, ◌+◌, ◌∷◌, [], ℕ, IfErr, IfOk, None, OnErr, OnOk, length, slice_get};
 ghost use Rattle.std.specs.Option.{option_copied};
-ghost use Rattle.lt_model.specs.Machine.{part_of};
-ghost use Rattle.lt_model.specs.Schema.{change_at};
+ghost use Rattle.lt_tables.specs.Pump.{part_of};
+ghost use Rattle.lt_tables.specs.Schema.{change_at};
 ghost use Rattle.lt_parts.specs.Search.{IsInner};
 ghost use Rattle.lt_parts.specs.Parts.{AreParts, HasKey, IsSplit, Meeting, checkpoints_of, first_below_in, interval, ranges, split_fault, view_refusal, whole_entry, with_times};
 

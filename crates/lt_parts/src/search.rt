@@ -2,7 +2,7 @@
 
 ghost use Rattle.std.specs.Prelude.{◌≡◌, ◌≤◌, ◌<◌, ℕ, IfNone, IfSome, IsTrue, Some, length, nat_lt, not, slice_get};
 ghost use Rattle.std.specs.Option.{option_copied};
-ghost use Rattle.lt_model.specs.Key.{below, is_below_high, rise};
+ghost use Rattle.lt_terms.specs.Key.{below, is_below_high, rise};
 ghost use Rattle.lt_parts.specs.declared.entry.PartEntry.{PartEntry};
 ghost use Rattle.lt_parts.specs.Parts.{lows_of};
 ghost use Rattle.lt_parts.specs.Search.{IsFirstBelow, NoneBelow};
@@ -14,7 +14,8 @@ use lt_core::Ts;
 pub fn count_up_to(entries: &[PartEntry], key: &[u8]) -> usize
     requires { IsTrue (rise (lows_of entries.now)) }
     ensures within { result ≤ length entries.now }
-    ensures exact { (n : ℕ) (e : PartEntry) → slice_get entries.now n ≡ Some e → not (below key.now e.low) ≡ nat_lt n result }
+    ensures exact { (n : ℕ) (e : PartEntry) → slice_get entries.now n ≡ Some e
+        → not (below key.now e.low) ≡ nat_lt n result }
 {
     entries.partition_point(|entry| begins_up_to(entry, key))
 }
@@ -23,7 +24,8 @@ pub fn count_up_to(entries: &[PartEntry], key: &[u8]) -> usize
 fn count_below(entries: &[PartEntry], bound: &[u8]) -> usize
     requires { IsTrue (rise (lows_of entries.now)) }
     ensures within { result ≤ length entries.now }
-    ensures exact { (n : ℕ) (e : PartEntry) → slice_get entries.now n ≡ Some e → below e.low bound.now ≡ nat_lt n result }
+    ensures exact { (n : ℕ) (e : PartEntry) → slice_get entries.now n ≡ Some e
+        → below e.low bound.now ≡ nat_lt n result }
 {
     entries.partition_point(|entry| begins_below(entry, bound))
 }
@@ -32,7 +34,8 @@ fn count_below(entries: &[PartEntry], bound: &[u8]) -> usize
 pub fn count_within(entries: &[PartEntry], high: Option<&[u8]>) -> usize
     requires { IsTrue (rise (lows_of entries.now)) }
     ensures within { result ≤ length entries.now }
-    ensures exact { (n : ℕ) (e : PartEntry) → slice_get entries.now n ≡ Some e → is_below_high e.low (option_copied high.entry) ≡ nat_lt n result }
+    ensures exact { (n : ℕ) (e : PartEntry) → slice_get entries.now n ≡ Some e
+        → is_below_high e.low (option_copied high.entry) ≡ nat_lt n result }
 {
     match high {
         None => entries.len(),

@@ -3,4 +3,3 @@ pub mod Names
 pub mod Puts
 pub mod Splits
 pub mod Takes
-pub mod Tested

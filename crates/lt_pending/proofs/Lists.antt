@@ -2,7 +2,7 @@
 use Rattle.std.proofs.Common.{◌≡◌, List, [], ◌∷◌, ◌++◌, sym, ap, ◌∙◌, map, reverse, append_assoc, append-nil}
 use Rattle.std.specs.Borrow.{Bor}
 use Rattle.std.proofs.lemmas.List.{map-append, reverse-append}
-use Rattle.lt_model.specs.Log.{Change}
+use Rattle.lt_terms.specs.Log.{Change}
 use Rattle.lt_records.specs.View.{view_change}
 use Rattle.lt_records.specs.declared.record.ChangeRecord.{ChangeRecord}
 use Rattle.lt_pending.specs.Stamps.{change_at, changes_at, changes_in}

@@ -6,9 +6,9 @@ use Rattle.std.specs.Map.{lookup, remove_entry, set_value}
 use Rattle.std.specs.BTreeMap.{insert_entry}
 use Rattle.std.specs.Ordering.{match_ordering, nat_cmp}
 use Rattle.std.specs.declared.cmp.Reverse.{Reverse}
-use Rattle.lt_model.specs.Key.{bytes_cmp, same_key}
-use Rattle.lt_model.specs.Log.{change_key}
-use Rattle.lt_laws.proofs.MergeLaws.{same-key}
+use Rattle.lt_terms.specs.Key.{bytes_cmp, same_key}
+use Rattle.lt_terms.specs.Log.{change_key}
+use Rattle.lt_lemmas.proofs.MergeLaws.{same-key}
 use Rattle.lt_records.specs.View.{view_change}
 use Rattle.lt_records.specs.declared.record.ChangeRecord.{ChangeRecord}
 use Rattle.lt_pending.specs.Stamps.{AreNamed, IsNamed, Stamps, change_at, later, stamped}

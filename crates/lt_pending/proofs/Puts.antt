@@ -9,11 +9,11 @@ use Rattle.std.specs.Ordering.{is_eq, is_lt, nat_cmp, match_ordering}
 use Rattle.std.specs.declared.cmp.Reverse.{Reverse}
 use Rattle.std.proofs.lemmas.Bool.Decides.{nat_tests}
 use Rattle.std.proofs.lemmas.Cmp.{nat_list_cmp_total, tied_itself}
-use Rattle.lt_model.specs.Key.{below, bytes_cmp, same_key}
-use Rattle.lt_model.specs.Log.{Change, change_key}
-use Rattle.lt_model.specs.Outside.{put_change}
-use Rattle.lt_laws.proofs.ListFacts.{all_front, all_rest}
-use Rattle.lt_laws.proofs.MergeLaws.{same-key}
+use Rattle.lt_terms.specs.Key.{below, bytes_cmp, same_key}
+use Rattle.lt_terms.specs.Log.{Change, change_key}
+use Rattle.lt_tables.specs.Pump.{put_change}
+use Rattle.lt_codecs.proofs.ListFacts.{all_front, all_rest}
+use Rattle.lt_lemmas.proofs.MergeLaws.{same-key}
 use Rattle.lt_records.specs.View.{view_change}
 use Rattle.lt_records.specs.declared.record.ChangeRecord.{ChangeRecord}
 use Rattle.lt_pending.specs.Stamps.{AreNamed, IsNamed, Stamps, change_at, changes_at, changes_in, later, stamped}

@@ -7,9 +7,9 @@ use Rattle.std.specs.List.{AllByRecursion}
 use Rattle.std.proofs.lemmas.Cmp.{nat_list_cmp_total}
 use Rattle.std.proofs.lemmas.List.{length-append}
 use Rattle.std.proofs.lemmas.List.Elements.{filter-append}
-use Rattle.lt_model.specs.Key.{below, bytes_cmp}
-use Rattle.lt_model.specs.Log.{Change, change_key}
-use Rattle.lt_laws.proofs.ListFacts.{all_front, all_rest}
+use Rattle.lt_terms.specs.Key.{below, bytes_cmp}
+use Rattle.lt_terms.specs.Log.{Change, change_key}
+use Rattle.lt_codecs.proofs.ListFacts.{all_front, all_rest}
 use Rattle.lt_pending.specs.Stamps.{AreNamed, Stamps, change_at, changes_at, changes_in}
 use Rattle.lt_pending.proofs.Puts.{Held, Named, Stamped}
 

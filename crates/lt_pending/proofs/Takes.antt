@@ -7,10 +7,10 @@ use Rattle.std.specs.Map.{keys_of, lookup, remove_entry, set_value}
 use Rattle.std.specs.BTreeMap.{is_at}
 use Rattle.std.specs.Ordering.{is_eq, nat_cmp}
 use Rattle.std.proofs.lemmas.Bool.Decides.{nat_tests}
-use Rattle.lt_model.specs.Key.{bytes_cmp, same_key}
-use Rattle.lt_model.specs.Log.{Change, change_key}
-use Rattle.lt_model.specs.Outside.{without_change}
-use Rattle.lt_laws.proofs.MergeLaws.{same-back, same-itself, same-key}
+use Rattle.lt_terms.specs.Key.{bytes_cmp, same_key}
+use Rattle.lt_terms.specs.Log.{Change, change_key}
+use Rattle.lt_tables.specs.Pump.{without_change}
+use Rattle.lt_lemmas.proofs.MergeLaws.{same-back, same-itself, same-key}
 use Rattle.lt_pending.specs.Stamps.{AreNamed, IsNamed, Stamps, change_at, changes_at, changes_in, later, stamped}
 use Rattle.lt_pending.proofs.Puts.{AreSorted, Held, KeysAbove, Named, Stamped, held, held-above, some-is, sorted-above, sorted-tail}
 

@@ -1,6 +1,6 @@
 -- The list that changes are seen as.
 use Rattle.std.specs.Prelude.{List}
-use Rattle.lt_model.specs.Log.{Change}
+use Rattle.lt_terms.specs.Log.{Change}
 use Rattle.lt_pending.specs.Stamps.{changes_in}
 use Rattle.lt_pending.specs.declared.changes.Changes.{Changes}
 

@@ -5,7 +5,7 @@ use Rattle.std.specs.declared.cmp.Reverse.{Reverse}
 use Rattle.std.specs.List.{AllByRecursion}
 use Rattle.std.specs.Ordering.{nat_cmp}
 use Rattle.std.specs.BTreeMap.{BTreeMap}
-use Rattle.lt_model.specs.Log.{Change, change_key}
+use Rattle.lt_terms.specs.Log.{Change, change_key}
 use Rattle.lt_records.specs.View.{view_change}
 use Rattle.lt_records.specs.declared.record.ChangeRecord.{ChangeRecord}
 

@@ -3,9 +3,9 @@
 ghost use Rattle.std.specs.Prelude.{◌≡◌, ◌++◌, [], IfOk, OnErr, OnOk, filter, length, map, not, reverse};
 ghost use Rattle.std.proofs.Props.{props};
 ghost use Rattle.std.specs.List.{AllByRecursion};
-ghost use Rattle.lt_model.specs.Key.{below};
-ghost use Rattle.lt_model.specs.Log.{change_key};
-ghost use Rattle.lt_model.specs.Outside.{put_change, without_change};
+ghost use Rattle.lt_terms.specs.Key.{below};
+ghost use Rattle.lt_terms.specs.Log.{change_key};
+ghost use Rattle.lt_tables.specs.Pump.{put_change, without_change};
 ghost use Rattle.lt_records.specs.View.{view_change};
 ghost use Rattle.lt_pending.specs.Stamps.{AreNamed, changes_in};
 
@@ -73,7 +73,8 @@ impl Changes {
 
     /// Parts the changes: those below a key stay, and the others are answered. An `Err` changes nothing.
     pub fn split_off(&mut self, key: &KeyBytes) -> Result<Changes, Memory>
-        ensures upper { IfOk result (λ upper. held_in upper ≡ filter (λ c. not (below (change_key c) key.now)) (held_in self.old)) }
+        ensures upper { IfOk result (λ upper. held_in upper ≡ filter (λ c. not (below (change_key c) key.now))
+            (held_in self.old)) }
         ensures lower { OnOk result (held_in self.new ≡ filter (λ c. below (change_key c) key.now) (held_in self.old)) }
         ensures err { OnErr result (held_in self.new ≡ held_in self.old) }
     {
@@ -86,7 +87,8 @@ impl Changes {
 
     /// Adds each change to a list, by falling key and rising timestamp. After an `Err` the list is some list.
     pub fn list_all<'a>(&'a self, list: &mut Vec<&'a ChangeRecord>) -> Result<(), Memory>
-        ensures { OnOk result (map (λ c. view_change c.now) list.new.items ≡ map (λ c. view_change c.now) list.old.items ++ reverse (held_in self.now)) }
+        ensures { OnOk result (map (λ c. view_change c.now) list.new.items ≡ map (λ c. view_change c.now) list.old.items
+            ++ reverse (held_in self.now)) }
     {
         for (_, stamps) in self.keys.iter().rev() {
             list_stamps(stamps, list)?;

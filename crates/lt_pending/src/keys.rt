@@ -3,9 +3,9 @@
 ghost use Rattle.std.specs.Prelude.{◌≡◌, ◌+◌, ◌<◌, ◌^◌, [], false, IfSome, IsTrue, None, OnErr, OnOk, if◌then◌else◌, length};
 ghost use Rattle.std.specs.List.{AllByRecursion};
 ghost use Rattle.std.specs.BTreeMap.{get};
-ghost use Rattle.lt_model.specs.Key.{bytes_cmp};
-ghost use Rattle.lt_model.specs.Log.{change_key};
-ghost use Rattle.lt_model.specs.Outside.{put_change, without_change};
+ghost use Rattle.lt_terms.specs.Key.{bytes_cmp};
+ghost use Rattle.lt_terms.specs.Log.{change_key};
+ghost use Rattle.lt_tables.specs.Pump.{put_change, without_change};
 ghost use Rattle.lt_records.specs.View.{view_change};
 ghost use Rattle.lt_pending.specs.Stamps.{AreNamed, changes_in};
 
@@ -23,7 +23,8 @@ pub(crate) fn put_in(keys: &mut Keys, change: ChangeRecord, key: KeyBytes) -> Re
     requires named { AreNamed keys.old.entries }
     requires key { key ≡ change_key (view_change change) }
     requires fresh { AllByRecursion (λ c. (change_key c ≡ key) → c.ts ≡ change.ts → ⊥) (changes_in keys.old.entries) }
-    ensures ok { OnOk result (changes_in keys.new.entries ≡ put_change (view_change change) (changes_in keys.old.entries)) }
+    ensures ok { OnOk result (changes_in keys.new.entries ≡ put_change (view_change change)
+        (changes_in keys.old.entries)) }
     ensures err { OnErr result (changes_in keys.new.entries ≡ changes_in keys.old.entries) }
     ensures named { AreNamed keys.new.entries }
 {
@@ -38,7 +39,8 @@ fn put_key(keys: &mut Keys, change: ChangeRecord, key: KeyBytes) -> Result<(), M
     requires named { AreNamed keys.old.entries }
     requires key { key ≡ change_key (view_change change) }
     requires absent { get bytes_cmp keys.old key ≡ None }
-    ensures ok { OnOk result (changes_in keys.new.entries ≡ put_change (view_change change) (changes_in keys.old.entries)) }
+    ensures ok { OnOk result (changes_in keys.new.entries ≡ put_change (view_change change)
+        (changes_in keys.old.entries)) }
     ensures err { OnErr result (changes_in keys.new.entries ≡ changes_in keys.old.entries) }
     ensures named { AreNamed keys.new.entries }
 {
@@ -51,7 +53,8 @@ fn put_key(keys: &mut Keys, change: ChangeRecord, key: KeyBytes) -> Result<(), M
 pub(crate) fn take_from(keys: &mut Keys, key: &KeyBytes, ts: Ts) -> bool
     requires { AreNamed keys.old.entries }
     ensures taken { changes_in keys.new.entries ≡ without_change key.now ts (changes_in keys.old.entries) }
-    ensures count { length (changes_in keys.new.entries) + (if result then 1 else 0) ≡ length (changes_in keys.old.entries) }
+    ensures count { length (changes_in keys.new.entries) + (if result then 1 else 0) ≡ length
+        (changes_in keys.old.entries) }
     ensures named { AreNamed keys.new.entries }
 {
     match keys.get_mut(key) {

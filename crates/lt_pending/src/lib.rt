@@ -10,6 +10,3 @@ mod stamps;
 pub use changes::{Changes, copy_change};
 pub use lt_core::{KeyBytes, Memory, Ts};
 pub use lt_records::ChangeRecord;
-
-#[cfg(test)]
-mod tests;

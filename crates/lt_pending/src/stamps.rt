@@ -4,7 +4,7 @@ ghost use Rattle.std.specs.Prelude.{◌≡◌, ◌+◌, ◌++◌, ◌∷◌, [],
 ghost use Rattle.std.specs.List.{AllByRecursion};
 ghost use Rattle.std.specs.Map.{remove_entry};
 ghost use Rattle.std.specs.BTreeMap.{IsOrdered, insert_entry, is_at};
-ghost use Rattle.lt_model.specs.Log.{change_key};
+ghost use Rattle.lt_terms.specs.Log.{change_key};
 ghost use Rattle.lt_records.specs.View.{view_change};
 ghost use Rattle.lt_pending.specs.Stamps.{IsNamed, changes_at, later, stamped};
 
@@ -50,7 +50,8 @@ pub(crate) fn list_stamps<'a>(
     stamps: &'a Stamps,
     list: &mut Vec<&'a ChangeRecord>,
 ) -> Result<(), Memory>
-    ensures { OnOk result (map (λ c. view_change c.now) list.new.items ≡ map (λ c. view_change c.now) list.old.items ++ reverse (changes_at stamps.now.entries)) }
+    ensures { OnOk result (map (λ c. view_change c.now) list.new.items ≡ map (λ c. view_change c.now) list.old.items ++
+        reverse (changes_at stamps.now.entries)) }
 {
     for (_, change) in stamps.iter().rev() {
         list.push(change)?;

@@ -3,9 +3,9 @@ use Rattle.std.proofs.Common.{Bool, List, None, Option, Some, [], ap, append-nil
 use Rattle.std.specs.Prelude.{filter, flat_map, option_and_then, option_map}
 use Rattle.std.specs.List.{cons_option}
 use Rattle.std.specs.Option.{option_map_or}
-use Rattle.lt_model.specs.Kind.{Kind}
-use Rattle.lt_model.specs.Layout.{Leaf, layout_of, leaves}
-use Rattle.lt_model.specs.Schema.{Catalogue, Table, carrier, carrier_layout, carriers, carriers_of, column_live, column_numbers, table_numbered}
+use Rattle.lt_terms.specs.Kind.{Kind}
+use Rattle.lt_terms.specs.Layout.{Leaf, layout_of, leaves}
+use Rattle.lt_tables.specs.Schema.{Catalogue, Table, carrier, carrier_layout, carriers, carriers_of, column_live, column_numbers, table_numbered}
 use Rattle.lt_physical.specs.Leaves.{carrier_leaves, live_leaves}
 
 abbrev of_live : Table → List ℕ → List Leaf

@@ -3,9 +3,9 @@ use Rattle.std.proofs.Common.{Bool, List, None, Some, [], ap, arith, cond, false
 use Rattle.std.specs.Prelude.{find, flat_map, nat_lt, option_and_then}
 use Rattle.std.specs.List.{AllByRecursion}
 use Rattle.lt_codecs.proofs.ListFacts.{none_mapped}
-use Rattle.lt_codecs.proofs.SpelledCatalogue.{all_faults}
-use Rattle.lt_laws.proofs.TableLaws.{first_two}
-use Rattle.lt_model.specs.Schema.{Catalogue, IsCatalogue, SchemaVersion, Table, after_adding, after_retiring, change_at, column_numbers, enum_sizes, first_of, leaf_count, live_version, new_table, nothing_yet, over, over_limit, retired_version, schema_fault, table_numbered, too_many, when, with_retired, with_version, without_version}
+use Rattle.lt_lemmas.proofs.TableLaws.{all_faults}
+use Rattle.lt_lemmas.proofs.TableLaws.{first_two}
+use Rattle.lt_tables.specs.Schema.{Catalogue, IsCatalogue, SchemaVersion, Table, after_adding, after_retiring, change_at, column_numbers, enum_sizes, first_of, leaf_count, live_version, new_table, nothing_yet, over, over_limit, retired_version, schema_fault, table_numbered, too_many, when, with_retired, with_version, without_version}
 
 abbrev AreFew : Catalogue → Type 0
 AreFew cat = AllByRecursion (λ t. length t.versions ≤ 256) cat

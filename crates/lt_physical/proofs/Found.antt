@@ -3,8 +3,8 @@ use Rattle.std.proofs.Common.{Bool, List, None, Option, Some, ap, cond, refl, sy
 use Rattle.std.specs.Prelude.{option_map, unwrap_or}
 use Rattle.std.specs.Borrow.{Bor}
 use Rattle.std.specs.Option.{option_copied}
-use Rattle.lt_model.specs.Layout.{setting}
-use Rattle.lt_model.specs.Value.{Value, fields_of, null_value, value_at}
+use Rattle.lt_terms.specs.Layout.{setting}
+use Rattle.lt_terms.specs.Value.{Value, fields_of, null_value, value_at}
 use Rattle.lt_core.specs.declared.value.Value.{Value as CodeValue}
 use Rattle.lt_core.specs.View.{view_value}
 use Rattle.lt_physical.specs.Cells.{value_found}

@@ -1,9 +1,9 @@
 -- The leaves of fields, one after another.
 use Rattle.std.proofs.Common.{List, [], ap, append-nil, append_assoc, sym, ℕ, ◌++◌, ◌∙◌, ◌∷◌, ◌≡◌}
-use Rattle.lt_model.specs.Layout.{field_leaves, leaves}
+use Rattle.lt_terms.specs.Layout.{field_leaves, leaves}
 use Rattle.lt_core.specs.View.{view_kind}
 use Rattle.lt_core.specs.declared.kind.Kind.{Kind as CodeKind}
-use Rattle.lt_model.specs.Schema.{version_layout}
+use Rattle.lt_tables.specs.Schema.{version_layout}
 use Rattle.lt_schema.specs.declared.version.Column.{Column as CodeColumn}
 use Rattle.lt_schema.specs.View.{view_columns, view_fields}
 

@@ -1,7 +1,7 @@
 -- Which field a longer path goes on by.
 use Rattle.std.proofs.Common.{List, None, Some, [], arith, cond, false, length, refl, slice_index_or, sym, true, ℕ, ◌++◌, ◌==◌, ◌≡◌, ◌∷◌, ◌<◌, ◌≤◌, Bool, eqb-true, eq-eqb}
 use Rattle.std.specs.Prelude.{◌≢◌}
-use Rattle.lt_model.specs.Layout.{next_field}
+use Rattle.lt_terms.specs.Layout.{next_field}
 
 pub next_at : (path : List ℕ) (n : ℕ) → next_field path (path ++ n ∷ []) ≡ Some n
 next_at [] n = refl

@@ -4,7 +4,7 @@ use Rattle.std.specs.Prelude.{flat_map, option_and_then, option_map, slice_get}
 use Rattle.std.specs.Option.{option_map_or}
 use Rattle.std.proofs.lemmas.Grind.{flat_map-append}
 use Rattle.std.proofs.lemmas.List.Sums.{fold-append}
-use Rattle.lt_model.specs.Schema.{Column, Registered, SchemaVersion, Table, column_numbers, put_number, registered, whole_version}
+use Rattle.lt_tables.specs.Schema.{Column, Registered, SchemaVersion, Table, column_numbers, put_number, registered, whole_version}
 use Rattle.lt_schema.specs.Limits.{numbers_in, with_numbers}
 
 -- the numbers in a table's versions before one

@@ -7,8 +7,8 @@ use Rattle.std.proofs.lemmas.List.{drop_more, map-append}
 use Rattle.lt_core.specs.View.{view_cells, view_layout, view_leaf, view_scalar}
 use Rattle.lt_core.specs.declared.leaf.Leaf as core
 use Rattle.lt_core.specs.declared.leaf.Scalar as core_cells
-use Rattle.lt_model.specs.Layout.{Cell, Leaf, at_path, is_present, is_unset, next_field, same_path, sets, unflatten, value_from, value_of, with_cells}
-use Rattle.lt_model.specs.Value.{Value, fields_of, null_value, struct_value}
+use Rattle.lt_terms.specs.Layout.{Cell, Leaf, at_path, is_present, is_unset, next_field, same_path, sets, unflatten, value_from, value_of, with_cells}
+use Rattle.lt_terms.specs.Value.{Value, fields_of, null_value, struct_value}
 use Rattle.lt_physical.specs.declared.values.Placed.{Placed}
 use Rattle.lt_physical.specs.Placed.{fields_at, of_column, view_found, view_placed}
 

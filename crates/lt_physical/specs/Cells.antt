@@ -2,7 +2,7 @@
 use Rattle.std.specs.Prelude.{None, Option, Some}
 use Rattle.std.specs.Borrow.{Bor}
 use Rattle.std.specs.Option.{option_copied}
-use Rattle.lt_model.specs.Value as model
+use Rattle.lt_terms.specs.Value as model
 use Rattle.lt_core.specs.declared.value.Value.{Value}
 use Rattle.lt_core.specs.View.{view_value}
 

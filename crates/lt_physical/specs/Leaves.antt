@@ -1,9 +1,9 @@
 -- The leaves of a layout.
 use Rattle.std.specs.Prelude.{Bool, List, [], filter, ℕ, ◌∷◌}
 use Rattle.std.specs.Option.{option_map_or}
-use Rattle.lt_model.specs.declared.Rank.{Rank}
-use Rattle.lt_model.specs.Layout.{Leaf, layout_of}
-use Rattle.lt_model.specs.Schema.{Catalogue, Table, carriers_of, column_live, table_numbered}
+use Rattle.lt_terms.specs.declared.Rank.{Rank}
+use Rattle.lt_terms.specs.Layout.{Leaf, layout_of}
+use Rattle.lt_tables.specs.Schema.{Catalogue, Table, carriers_of, column_live, table_numbered}
 
 abbrev pub one_leaf : ℕ → List ℕ → Rank → Bool → Leaf
 one_leaf column path rank presence = record { column = column; path = path; rank = rank; presence = presence }

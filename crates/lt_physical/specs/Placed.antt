@@ -1,8 +1,8 @@
 -- Leaves with their cells, and the values that they give.
 use Rattle.std.specs.Prelude.{List, None, filter, filter_map, if◌then◌else◌, map, [], ℕ, ◌++◌, ◌==◌, ◌∷◌}
 use Rattle.lt_core.specs.View.{view_leaf, view_scalar}
-use Rattle.lt_model.specs.Layout.{Cell, Leaf, next_field, value_from}
-use Rattle.lt_model.specs.Value.{Value}
+use Rattle.lt_terms.specs.Layout.{Cell, Leaf, next_field, value_from}
+use Rattle.lt_terms.specs.Value.{Value}
 use Rattle.lt_physical.specs.declared.values.Placed.{Placed}
 
 abbrev pub view_found : Placed → Leaf × Cell

@@ -3,8 +3,8 @@
 
 ghost use Rattle.std.specs.Prelude.{◌≡◌, option_map, IfOk};
 ghost use Rattle.std.specs.Option.{option_map_or};
-ghost use Rattle.lt_model.specs.Layout as layouts;
-ghost use Rattle.lt_model.specs.Value.{null_value};
+ghost use Rattle.lt_terms.specs.Layout as layouts;
+ghost use Rattle.lt_terms.specs.Value.{null_value};
 ghost use Rattle.lt_core.specs.View.{view_cells, view_layout, view_leaf, view_scalar, view_settings, view_value};
 ghost use Rattle.lt_physical.specs.Cells.{value_found, value_given};
 
@@ -13,7 +13,8 @@ use std::alloc::Global;
 
 /// The cells of what is set. A column that is not set has unset cells.
 pub fn flatten(alloc: Global, layout: &Layout, set: &Settings) -> Result<Cells, Memory>
-    ensures { IfOk result (λ cells. view_cells cells ≡ layouts.flatten (view_layout layout.now) (view_settings set.now)) }
+    ensures { IfOk result (λ cells. view_cells cells ≡ layouts.flatten (view_layout layout.now)
+        (view_settings set.now)) }
 {
     let mut cells = List::new(alloc);
     for leaf in layout.as_slice() {
@@ -24,7 +25,8 @@ pub fn flatten(alloc: Global, layout: &Layout, set: &Settings) -> Result<Cells, 
 
 /// The cell of a leaf.
 fn cell_in(alloc: Global, leaf: &Leaf, set: &Settings) -> Result<Scalar, Memory>
-    ensures { IfOk result (λ cell. view_scalar cell ≡ option_map_or (layouts.leaf_cell (view_leaf leaf.now)) (layouts.setting leaf.now.column (view_settings set.now)) layouts.unset) }
+    ensures { IfOk result (λ cell. view_scalar cell ≡ option_map_or (layouts.leaf_cell (view_leaf leaf.now))
+        (layouts.setting leaf.now.column (view_settings set.now)) layouts.unset) }
 {
     match setting_of(set, leaf.column) {
         None => Ok(Scalar::Unset),

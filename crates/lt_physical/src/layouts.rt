@@ -2,8 +2,8 @@
 
 ghost use Rattle.std.specs.Prelude.{◌≡◌, ◌++◌, [], IfOk, OnOk};
 ghost use Rattle.std.specs.Option.{option_map_or};
-ghost use Rattle.lt_model.specs.Schema as schema;
-ghost use Rattle.lt_model.specs.Schema.{table_numbered};
+ghost use Rattle.lt_tables.specs.Schema as schema;
+ghost use Rattle.lt_tables.specs.Schema.{table_numbered};
 ghost use Rattle.lt_core.specs.View.{view_layout};
 ghost use Rattle.lt_schema.specs.Limits.{with_numbers};
 ghost use Rattle.lt_schema.specs.View.{view_columns};
@@ -66,7 +66,8 @@ fn add_carrier(
 
 /// The numbers of the columns of all versions of a table.
 fn column_numbers(alloc: Global, cat: &Catalogue, number: u32) -> Result<BTreeSet<u16>, Memory>
-    ensures { IfOk result (λ numbers. numbers.keys ≡ option_map_or schema.column_numbers (table_numbered cat.now number) []) }
+    ensures { IfOk result (λ numbers. numbers.keys ≡ option_map_or schema.column_numbers (table_numbered cat.now number)
+        []) }
 {
     let mut numbers = BTreeSet::new(alloc);
     for version in 1..=MAX_VERSIONS {

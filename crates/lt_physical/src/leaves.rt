@@ -2,7 +2,7 @@
 //! lawful version nests at most 4 deep.
 
 ghost use Rattle.std.specs.Prelude.{◌≡◌, ◌++◌, ◌∷◌, [], IfOk, OnOk};
-ghost use Rattle.lt_model.specs.Layout.{field_leaves, leaves};
+ghost use Rattle.lt_terms.specs.Layout.{field_leaves, leaves};
 ghost use Rattle.lt_core.specs.View.{view_kind, view_layout};
 ghost use Rattle.lt_schema.specs.View.{view_fields};
 ghost use Rattle.lt_physical.specs.Leaves.{one_leaf};
@@ -12,7 +12,8 @@ use lt_core::{FieldKinds, Kind, Layout, Leaf, List, Memory, Path, Rank};
 /// Adds the leaves of the part of a column that a path leads to.
 #[cycle(leaves)]
 pub fn add_leaves(kind: &Kind, column: u16, path: &Path, layout: &mut Layout) -> Result<(), Memory>
-    ensures { OnOk result (view_layout layout.new ≡ view_layout layout.old ++ leaves column path.now (view_kind kind.now)) }
+    ensures { OnOk result (view_layout layout.new ≡ view_layout layout.old ++ leaves column path.now
+        (view_kind kind.now)) }
 {
     match kind {
         Kind::Plain(rank) => add_leaf(column, path, *rank, false, layout),
@@ -32,7 +33,8 @@ fn add_field_leaves(
     path: &Path,
     layout: &mut Layout,
 ) -> Result<(), Memory>
-    ensures { OnOk result (view_layout layout.new ≡ view_layout layout.old ++ field_leaves column path.now (view_fields fields.now)) }
+    ensures { OnOk result (view_layout layout.new ≡ view_layout layout.old ++ field_leaves column path.now
+        (view_fields fields.now)) }
 {
     for (number, _, kind) in fields.as_slice() {
         let longer = longer_path(path, *number)?;
@@ -58,7 +60,8 @@ fn add_leaf(
     presence: bool,
     layout: &mut Layout,
 ) -> Result<(), Memory>
-    ensures { OnOk result (view_layout layout.new ≡ view_layout layout.old ++ one_leaf column path.now rank presence ∷ []) }
+    ensures { OnOk result (view_layout layout.new ≡ view_layout layout.old ++ one_leaf column path.now rank presence
+        ∷ []) }
 {
     layout.push(Leaf {
         column,

@@ -4,8 +4,6 @@
 mod cells;
 mod layouts;
 mod leaves;
-#[cfg(test)]
-mod tests;
 mod values;
 
 pub use cells::flatten;

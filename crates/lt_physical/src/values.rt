@@ -2,8 +2,7 @@
 //! leaves. The recursion goes down the structs, which nest at most 4 deep.
 
 ghost use Rattle.std.specs.Prelude.{◌≡◌, ◌==◌, None, if◌then◌else◌, IfOk, option_map};
-ghost use Rattle.lt_model.specs.Layout as layouts;
-ghost use Rattle.lt_model.specs.Value as model;
+ghost use Rattle.lt_terms.specs.Layout as layouts;
 ghost use Rattle.lt_core.specs.View.{view_cells, view_layout, view_leaf, view_scalar, view_settings, view_value};
 ghost use Rattle.lt_physical.specs.Placed.{fields_at, of_column, view_found, view_placed};
 
@@ -31,7 +30,8 @@ pub fn unflatten(
     cells: &Cells,
     column: u16,
 ) -> Result<Option<Value>, Memory>
-    ensures { IfOk result (λ value. option_map view_value value ≡ layouts.unflatten (view_layout layout.now) (view_cells cells.now) column) }
+    ensures { IfOk result (λ value. option_map view_value value ≡ layouts.unflatten (view_layout layout.now)
+        (view_cells cells.now) column) }
 {
     let placed = placed_in(alloc, layout, cells, column)?;
     if !sets(&placed, column) {
@@ -48,7 +48,8 @@ fn placed_in<'a>(
     cells: &'a Cells,
     column: u16,
 ) -> Result<Vec<Placed<'a>>, Memory>
-    ensures { IfOk result (λ placed. view_placed placed.items ≡ of_column column (layouts.with_cells (view_layout layout.now) (view_cells cells.now))) }
+    ensures { IfOk result (λ placed. view_placed placed.items ≡ of_column column
+        (layouts.with_cells (view_layout layout.now) (view_cells cells.now))) }
 {
     let mut placed = Vec::new(alloc);
     let mut rest = cells.as_slice();
@@ -94,7 +95,8 @@ fn value_from(
     column: u16,
     path: &Path,
 ) -> Result<Value, Memory>
-    ensures { IfOk result (λ value. view_value value ≡ layouts.value_from depth column path.now (view_placed placed.now)) }
+    ensures { IfOk result (λ value. view_value value ≡ layouts.value_from depth column path.now
+        (view_placed placed.now)) }
 {
     if depth == 0 {
         return Ok(Value::Null);

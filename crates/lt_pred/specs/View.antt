@@ -1,6 +1,6 @@
 -- What literals and predicates stand for in the definitions.
 use Rattle.std.specs.Prelude.{List, map}
-use Rattle.lt_model.specs.Query as model
+use Rattle.lt_tables.specs.Query as model
 use Rattle.lt_pred.specs.declared.literal.Literal.{Literal}
 use Rattle.lt_pred.specs.declared.literal.Literal.TheVariants as literals
 use Rattle.lt_pred.specs.declared.pred.Pred.{Pred, fold-Pred}

@@ -5,11 +5,9 @@
 
 mod literal;
 mod pred;
-#[cfg(test)]
-mod tests;
 
 pub use literal::{Literal, Literals};
 pub use lt_core::{List, Memory, Text};
-pub use lt_model::CmpOp;
+pub use lt_terms::CmpOp;
 pub use pred::{NameList, Pred};
 pub use sqlite_items::Boxed;

@@ -4,7 +4,7 @@ ghost use Rattle.std.specs.Prelude.{◌≡◌, IfOk};
 
 use crate::literal::Literal;
 use lt_core::{List, Memory, Text};
-use lt_model::CmpOp;
+use lt_terms::CmpOp;
 use sqlite_items::Boxed;
 use std::alloc::Global;
 

@@ -2,17 +2,19 @@
 use Rattle.std.proofs.Common.{◌≡◌, ℕ, suc, zero, ◌+◌, ◌<◌, Bool, true, false, List, [], ◌∷◌, ◌++◌, length, refl, sym, ap, ap₂, subst, ◌∙◌, arith, inr, append_assoc, append-nil, map}
 use Rattle.std.specs.Prelude.{Err, IfErr, IfSome, IsTrue, None, Ok, Option, Result, Some, option_and_then, ◌↔◌, ◌&&◌, ◌==◌}
 use Rattle.std.specs.Result.{IsErrAnd}
-use Rattle.lt_model.specs.Disk.{Rose}
+use Rattle.lt_world.specs.Disk.{Rose}
 use Rattle.std.proofs.lemmas.Bool.{and_from, and_parts}
 use Rattle.std.proofs.lemmas.List.{length-append, length-map, map-append}
-use Rattle.lt_model.specs.declared.Format.TheVariants as format
-use Rattle.lt_model.specs.Fair as fair
-use Rattle.lt_model.specs.Fair.{Feed, Grows, HasHeader, header_length, point_of, stream_bytes}
-use Rattle.lt_model.specs.Log.{Header, header_item, is_item}
-use Rattle.lt_model.specs.Machine.{StreamAt, behind_header, last_of, no_point}
-use Rattle.lt_model.specs.Outside.{FeedGrows, StaysTold}
-use Rattle.lt_model.specs.Run.{AreHeaders, Attaches, GoesOn, IsKeptLow, IsMismatch, StreamOpens, bound_before, count_mismatch}
-use Rattle.lt_laws.proofs.FrontLaws.{header_stays}
+use Rattle.lt_terms.specs.declared.Format.TheVariants as format
+use Rattle.lt_tables.specs.Fair as fair
+use Rattle.lt_world.specs.Feed.{Feed, Grows, stream_bytes}
+use Rattle.lt_tables.specs.Fair.{HasHeader, header_length, point_of}
+use Rattle.lt_terms.specs.Log.{Header, header_item, is_item}
+use Rattle.lt_tables.specs.Pump.{StreamAt, behind_header, last_of, no_point}
+use Rattle.lt_world.specs.Feed.{FeedGrows}
+use Rattle.lt_world.specs.Object.{StaysTold}
+use Rattle.lt_tables.specs.Pump.{AreHeaders, Attaches, GoesOn, IsKeptLow, IsMismatch, StreamOpens, bound_before, count_mismatch}
+use Rattle.lt_lemmas.proofs.FrontLaws.{header_stays}
 use Rattle.lt_records.specs.View.{view_header}
 use Rattle.lt_records.specs.declared.record.StreamHeader.{StreamHeader}
 use Rattle.lt_pump.specs.Headers.{Begins, Fits, IsFramed}

@@ -3,13 +3,13 @@ use Rattle.std.proofs.Common.{Bool, List, [], ap, arith, cond, false, inl, inr, 
 use Rattle.std.specs.Prelude.{IsTrue, filter, nat_lt}
 use Rattle.std.specs.List.{AllByRecursion}
 use Rattle.std.proofs.lemmas.Bool.{ltb-false}
-use Rattle.lt_model.specs.Key.{in_range, same_key}
-use Rattle.lt_model.specs.Log.{Change, change_key}
-use Rattle.lt_model.specs.Fair.{put_key, window_ts}
-use Rattle.lt_model.specs.Machine.{StreamAt}
-use Rattle.lt_model.specs.Schema.{Catalogue}
+use Rattle.lt_terms.specs.Key.{in_range, same_key}
+use Rattle.lt_terms.specs.Log.{Change, change_key}
+use Rattle.lt_tables.specs.Fair.{put_key, window_ts}
+use Rattle.lt_tables.specs.Pump.{StreamAt}
+use Rattle.lt_tables.specs.Schema.{Catalogue}
 use Rattle.lt_codecs.proofs.ListFacts.{all_map}
-use Rattle.lt_laws.proofs.PointLaws.{itself, same, window_ts-put}
+use Rattle.lt_lemmas.proofs.PointLaws.{itself, same, window_ts-put}
 use Rattle.lt_pump.specs.Given.{AreBehind, IsBehind}
 use Rattle.lt_pump.specs.Positions.{IsOther}
 use Rattle.lt_pump.proofs.PassLaws.{Passes}

@@ -3,14 +3,14 @@ use Rattle.std.proofs.Common.{Bool, List, [], ap, append-nil, arith, false, refl
 use Rattle.std.specs.Prelude.{IfNone, IfSome, IsTrue, None, Option, Some, flat_map, nat_lt, slice_get, unwrap_or, ◌||◌}
 use Rattle.std.specs.List.{AllByRecursion}
 use Rattle.std.proofs.lemmas.Bool.{ltb-false}
-use Rattle.lt_model.specs.Fair.{Point, backward, breaks_at, is_closed, point_after}
-use Rattle.lt_model.specs.Key.{Range}
-use Rattle.lt_model.specs.Log.{Change, Header, change_item, change_key, changes_in, spelled}
-use Rattle.lt_model.specs.Machine.{StreamAt, moved_by}
-use Rattle.lt_model.specs.Outside.{holds_change, put_change, without_change}
-use Rattle.lt_model.specs.Schema.{Catalogue, change_at, when}
-use Rattle.lt_codecs.proofs.ListFacts.{when_none}
-use Rattle.lt_laws.proofs.PartsChanged.{length_changed}
+use Rattle.lt_tables.specs.Fair.{Point, backward, breaks_at, is_closed, point_after}
+use Rattle.lt_terms.specs.Key.{Range}
+use Rattle.lt_terms.specs.Log.{Change, Header, change_item, change_key, changes_in, spelled}
+use Rattle.lt_tables.specs.Pump.{StreamAt, moved_by}
+use Rattle.lt_tables.specs.Pump.{holds_change, put_change, without_change}
+use Rattle.lt_tables.specs.Schema.{Catalogue, change_at, when}
+use Rattle.lt_lemmas.proofs.ListFacts.{when_none}
+use Rattle.lt_lemmas.proofs.PartsChanged.{length_changed}
 use Rattle.lt_records.specs.View.{view_item}
 use Rattle.lt_records.specs.declared.record.ChangeRecord.{ChangeRecord}
 use Rattle.lt_records.specs.declared.record.LogRecord.{LogRecord}

@@ -1,9 +1,10 @@
 -- What calls leave of a feed, one after another, and what two told contents say together.
 use Rattle.std.proofs.Common.{◌≡◌, true, false, refl, arith}
 use Rattle.std.specs.Prelude.{IfSome, None, Option, Result, Some}
-use Rattle.lt_model.specs.Fair.{Feed, Grows}
-use Rattle.lt_model.specs.Outside.{FeedCalled, FeedGoes, FeedGrows, FeedState, StaysTold}
-use Rattle.lt_laws.proofs.FrontLaws.{grows_itself, grows_then}
+use Rattle.lt_world.specs.Feed.{Feed, Grows}
+use Rattle.lt_world.specs.Feed.{FeedCalled, FeedGoes, FeedGrows, FeedState}
+use Rattle.lt_world.specs.Object.{StaysTold}
+use Rattle.lt_lemmas.proofs.FrontLaws.{grows_itself, grows_then}
 
 -- what two contents say together, one of which grew to the other
 pub told_step : (P Q R : Feed → Type 0) (o p : Option Feed) → StaysTold o p → FeedGrows o p → IfSome o P → IfSome p Q → ((f g : Feed) → Grows f g → P f → Q g → R g) → IfSome p R

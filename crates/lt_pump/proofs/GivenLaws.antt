@@ -4,12 +4,12 @@ use Rattle.std.specs.Prelude.{IsTrue, Option, Some, length, nat_lt, not, slice_g
 use Rattle.std.specs.List.{AllByRecursion}
 use Rattle.std.proofs.lemmas.Bool.{and_from, and_parts}
 use Rattle.std.proofs.lemmas.List.Sums.{fold-append}
-use Rattle.lt_model.specs.Key.{Range, in_range, same_key}
-use Rattle.lt_model.specs.Log.{Change, change_key}
-use Rattle.lt_model.specs.Outside.{holds_change, put_change, without_change}
-use Rattle.lt_model.specs.Schema.{change_at}
-use Rattle.lt_laws.proofs.PartsChanged.{change_twice, changed_there}
-use Rattle.lt_laws.proofs.PointLaws.{itself, same}
+use Rattle.lt_terms.specs.Key.{Range, in_range, same_key}
+use Rattle.lt_terms.specs.Log.{Change, change_key}
+use Rattle.lt_tables.specs.Pump.{holds_change, put_change, without_change}
+use Rattle.lt_tables.specs.Schema.{change_at}
+use Rattle.lt_lemmas.proofs.PartsChanged.{change_twice, changed_there}
+use Rattle.lt_lemmas.proofs.PointLaws.{itself, same}
 use Rattle.lt_pump.specs.Given.{AreApart, AreDisjoint, HasKey, IsOutOfAll, all_given, given}
 use Rattle.lt_pump.specs.Positions.{IsOther}
 

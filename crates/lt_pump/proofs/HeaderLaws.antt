@@ -3,13 +3,13 @@ use Rattle.std.proofs.Common.{◌≡◌, ℕ, ◌+◌, ◌^◌, ◌<◌, ◌≤�
 use Rattle.std.specs.Prelude.{IfSome, IsTrue, None, Option, Some, unwrap_or}
 use Rattle.std.proofs.lemmas.Bool.{and_parts, leb-true}
 use Rattle.std.proofs.lemmas.List.{length-append, take_at}
-use Rattle.lt_model.specs.declared.BadFrame.TheVariants as bad
-use Rattle.lt_model.specs.declared.Format.{Format}
-use Rattle.lt_model.specs.declared.Format.TheVariants as format
-use Rattle.lt_model.specs.Log as log
-use Rattle.lt_model.specs.Log.{Found, Header, IsFound, IsFrame, Item, body, change_item, checkpoint_item, header_item, is_content, is_item, is_kind, is_read, kind_byte, malformed, max_body, partial, spelled, whole}
-use Rattle.lt_model.specs.Fair.{Feed, stream_bytes}
-use Rattle.lt_model.specs.Run.{StreamOpens}
+use Rattle.lt_terms.specs.declared.BadFrame.TheVariants as bad
+use Rattle.lt_terms.specs.declared.Format.{Format}
+use Rattle.lt_terms.specs.declared.Format.TheVariants as format
+use Rattle.lt_terms.specs.Log as log
+use Rattle.lt_terms.specs.Log.{Found, Header, IsFound, IsFrame, Item, body, change_item, checkpoint_item, header_item, is_content, is_item, is_kind, is_read, kind_byte, malformed, max_body, partial, spelled, whole}
+use Rattle.lt_world.specs.Feed.{Feed, stream_bytes}
+use Rattle.lt_tables.specs.Pump.{StreamOpens}
 use Rattle.lt_codecs.specs.Codec as codec
 use Rattle.lt_codecs.proofs.Codecs.{u32_is}
 use Rattle.lt_codecs.proofs.FoundLaws.{kind_is, whole_splits}

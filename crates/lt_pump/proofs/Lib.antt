@@ -14,5 +14,3 @@ pub mod TileLaws
 pub mod AttachLaws
 pub mod OthersLaws
 pub mod NameLaws
-pub mod TurnLaws
-pub mod SlotLaws

@@ -4,20 +4,21 @@ use Rattle.std.specs.Prelude.{IsTrue, None, Option, fold, nat_lt, not, zip, ◌&
 use Rattle.std.specs.List.{AllByRecursion}
 use Rattle.std.proofs.lemmas.Bool.{and_parts, ltb-false}
 use Rattle.std.proofs.lemmas.List.Sums.{fold-append}
-use Rattle.lt_model.specs.declared.Format.TheVariants as format
-use Rattle.lt_model.specs.Fair.{Feed, backward, breaks_at, put_key}
-use Rattle.lt_model.specs.Key.{Range, in_range, same_key}
-use Rattle.lt_model.specs.Log.{Change, Item, batch_item, change_item, change_key, changes_in, changes_of, checkpoint_item, close_item, header_item, is_item}
-use Rattle.lt_model.specs.Machine.{StreamAt, all_delivered, delivered, moved_by, put_name}
-use Rattle.lt_model.specs.Outside.{name_of, put_change}
-use Rattle.lt_model.specs.Schema.{Catalogue, when}
-use Rattle.lt_model.specs.Sound.{names_rise}
-use Rattle.lt_model.specs.Store.{Part}
-use Rattle.lt_model.specs.Version.{RowVersion, is_ordered, put_version, same_name, stands_before}
-use Rattle.lt_codecs.proofs.ListFacts.{when_none}
-use Rattle.lt_laws.proofs.MergeLaws.{put-ordered}
-use Rattle.lt_laws.proofs.PointLaws.{same}
-use Rattle.lt_laws.proofs.PumpLaws.{as_version, as_versions}
+use Rattle.lt_terms.specs.declared.Format.TheVariants as format
+use Rattle.lt_world.specs.Feed.{Feed}
+use Rattle.lt_tables.specs.Fair.{backward, breaks_at, put_key}
+use Rattle.lt_terms.specs.Key.{Range, in_range, same_key}
+use Rattle.lt_terms.specs.Log.{Change, Item, batch_item, change_item, change_key, changes_in, changes_of, checkpoint_item, close_item, header_item, is_item}
+use Rattle.lt_tables.specs.Pump.{StreamAt, all_delivered, delivered, moved_by, put_name}
+use Rattle.lt_tables.specs.Pump.{name_of, put_change}
+use Rattle.lt_tables.specs.Schema.{Catalogue, when}
+use Rattle.lt_tables.specs.Pump.{names_rise}
+use Rattle.lt_tables.specs.Pump.{Part}
+use Rattle.lt_tables.specs.Version.{RowVersion, is_ordered, put_version, same_name, stands_before}
+use Rattle.lt_lemmas.proofs.ListFacts.{when_none}
+use Rattle.lt_lemmas.proofs.MergeLaws.{put-ordered}
+use Rattle.lt_lemmas.proofs.PointLaws.{same}
+use Rattle.lt_lemmas.proofs.PumpLaws.{as_version, as_versions}
 use Rattle.lt_fair.proofs.FaultParts.{not_shut}
 use Rattle.lt_pump.specs.Given.{AreBehind, IsBehind, all_given, given}
 use Rattle.lt_pump.specs.Names.{AreOrderly, NamesFollow, all_names, names_of, part_subs}

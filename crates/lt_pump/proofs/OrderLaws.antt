@@ -8,10 +8,10 @@ use Rattle.std.proofs.lemmas.Cmp.{nat_list_cmp_total}
 use Rattle.std.proofs.lemmas.List.{get_or_default}
 use Rattle.std.proofs.lemmas.List.MinMax.{ranks_by}
 use Rattle.std.proofs.lemmas.List.Sorted.{All-permutation, IsPermutation-sym, sorted_far}
-use Rattle.lt_model.specs.Key.{Range, below, in_range, is_below_high}
+use Rattle.lt_terms.specs.Key.{Range, below, in_range, is_below_high}
 use Rattle.lt_core.specs.View.{view_range}
-use Rattle.lt_laws.proofs.SoundLaws.{pick}
-use Rattle.lt_laws.proofs.SplitLaws.{not_below_itself, not_below_trans}
+use Rattle.lt_lemmas.proofs.SoundLaws.{pick}
+use Rattle.lt_lemmas.proofs.SplitLaws.{not_below_itself, not_below_trans}
 use Rattle.lt_pump.specs.Given.{AreApart, AreDisjoint, HasKey, IsOutOfAll}
 use Rattle.lt_pump.specs.Order.{AreByLow, AreOrdered, AreOwners, IsOutside, IsOwner}
 use Rattle.lt_pump.specs.View.{view_subscription}

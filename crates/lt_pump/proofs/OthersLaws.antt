@@ -2,14 +2,15 @@
 use Rattle.std.proofs.Common.{Bool, List, [], ap, arith, false, map, refl, subst, suc, sym, true, zero, ℕ, ◌++◌, ◌<◌, ◌∙◌, ◌∷◌, ◌≡◌, length, slice_index_or, slice_set}
 use Rattle.std.specs.Prelude.{IsTrue, None, Option, Some, slice_get, ◌≢◌}
 use Rattle.std.specs.List.{AllByRecursion}
-use Rattle.lt_model.specs.declared.Format.TheVariants as format
-use Rattle.lt_model.specs.Fair.{Feed, Point, breaks_at}
-use Rattle.lt_model.specs.Key.{Range, in_range, ranges_from, tile}
-use Rattle.lt_model.specs.Log.{Change, Header, Item, batch_item, change_item, change_key, changes_of, checkpoint_item, close_item, header_item, is_item}
-use Rattle.lt_model.specs.Machine.{StreamAt, moved_by}
-use Rattle.lt_model.specs.Schema.{Catalogue}
+use Rattle.lt_terms.specs.declared.Format.TheVariants as format
+use Rattle.lt_world.specs.Feed.{Feed}
+use Rattle.lt_tables.specs.Fair.{Point, breaks_at}
+use Rattle.lt_terms.specs.Key.{Range, in_range, ranges_from, tile}
+use Rattle.lt_terms.specs.Log.{Change, Header, Item, batch_item, change_item, change_key, changes_of, checkpoint_item, close_item, header_item, is_item}
+use Rattle.lt_tables.specs.Pump.{StreamAt, moved_by}
+use Rattle.lt_tables.specs.Schema.{Catalogue}
 use Rattle.lt_codecs.proofs.ListFacts.{all_map}
-use Rattle.lt_laws.proofs.RangeLaws.{IsSole, tile_sole}
+use Rattle.lt_lemmas.proofs.RangeLaws.{IsSole, tile_sole}
 use Rattle.lt_pump.specs.Given.{AreAllBehind, AreApart, AreBehind, IsBehind, all_given}
 use Rattle.lt_pump.specs.Positions.{AreFair, Took, range_of, stream_of}
 use Rattle.lt_pump.specs.Pumps.{OthersStay}

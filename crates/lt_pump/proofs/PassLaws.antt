@@ -3,14 +3,15 @@ use Rattle.std.proofs.Common.{Bool, false, sym, true, ℕ, ◌<◌, ◌∙◌, �
 use Rattle.std.specs.Prelude.{IsTrue, None, Option, Some, is_none, length, nat_le, not, option_and_then, ◌&&◌}
 use Rattle.std.specs.Option.{option_map_or}
 use Rattle.std.proofs.lemmas.Bool.{and_from, and_parts, leb-false, not-false}
-use Rattle.lt_model.specs.Key.{in_range, max_key}
-use Rattle.lt_model.specs.Value.{is_timestamp}
-use Rattle.lt_model.specs.declared.Format.TheVariants as format
-use Rattle.lt_model.specs.Log.{Change, Header, change_item, change_key, is_change, is_item}
-use Rattle.lt_model.specs.Fair.{Point, bad_shape, breaks_at, has_change_shape, late, out_of_order, out_of_range, unknown_table_number, unknown_version_number, window_ts}
-use Rattle.lt_model.specs.Outside.{is_deliverable}
-use Rattle.lt_model.specs.Schema.{Catalogue, Table, registered, table_numbered, when}
-use Rattle.lt_codecs.proofs.ListFacts.{or_left, or_right, when_none}
+use Rattle.lt_terms.specs.Key.{in_range, max_key}
+use Rattle.lt_terms.specs.Value.{is_timestamp}
+use Rattle.lt_terms.specs.declared.Format.TheVariants as format
+use Rattle.lt_terms.specs.Log.{Change, Header, change_item, change_key, is_change, is_item}
+use Rattle.lt_tables.specs.Fair.{Point, bad_shape, breaks_at, has_change_shape, late, out_of_order, out_of_range, unknown_table_number, unknown_version_number, window_ts}
+use Rattle.lt_tables.specs.Pump.{is_deliverable}
+use Rattle.lt_tables.specs.Schema.{Catalogue, Table, registered, table_numbered, when}
+use Rattle.lt_codecs.proofs.ListFacts.{or_left, or_right}
+use Rattle.lt_lemmas.proofs.ListFacts.{when_none}
 use Rattle.lt_fair.proofs.FaultParts.{fault_parts, not_shut}
 use Rattle.lt_fair.specs.Faults.{shape_fault, time_fault}
 

@@ -5,12 +5,12 @@ use Rattle.std.specs.Vec.{vec_len}
 use Rattle.std.specs.declared.alloc.Global.{Global}
 use Rattle.std.proofs.lemmas.Bool.{and_from, and_parts}
 use Rattle.std.proofs.lemmas.List.{length-map}
-use Rattle.lt_model.specs.declared.Format.TheVariants as format
-use Rattle.lt_model.specs.Fair.{Feed}
-use Rattle.lt_model.specs.Key.{Range}
-use Rattle.lt_model.specs.Log.{Change, header_item, is_item}
-use Rattle.lt_model.specs.Machine.{StreamAt}
-use Rattle.lt_model.specs.Schema.{Catalogue, change_at}
+use Rattle.lt_terms.specs.declared.Format.TheVariants as format
+use Rattle.lt_world.specs.Feed.{Feed}
+use Rattle.lt_terms.specs.Key.{Range}
+use Rattle.lt_terms.specs.Log.{Change, header_item, is_item}
+use Rattle.lt_tables.specs.Pump.{StreamAt}
+use Rattle.lt_tables.specs.Schema.{Catalogue, change_at}
 use Rattle.lt_pump.specs.Given.{AreBehind}
 use Rattle.lt_pump.specs.Positions.{Ran, RanSome, are_streams, low_of, range_of, stream_of}
 use Rattle.lt_pump.specs.Pumps.{HasPumped, HasPumpedSome}

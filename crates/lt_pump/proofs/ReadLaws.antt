@@ -2,13 +2,14 @@
 use Rattle.std.proofs.Common.{◌≡◌, ℕ, ◌+◌, ◌-◌, ◌≤◌, true, false, Bool, List, [], ◌∷◌, ◌++◌, length, take, drop, refl, sym, ap, ◌∙◌, subst, arith, append_assoc, append-nil, suc, zero}
 use Rattle.std.specs.Prelude.{None, Option, Some, IfSome, ◌↔◌}
 use Rattle.std.proofs.lemmas.List.{drop-append-le, drop-drop, drop_at, length-append, length-drop, take-append-drop}
-use Rattle.lt_model.specs.declared.Format.TheVariants as format
-use Rattle.lt_model.specs.Fair.{Feed, Grows, stream_bytes}
-use Rattle.lt_model.specs.Log.{Found, IsFound, malformed, partial, spelled, u32, whole}
-use Rattle.lt_model.specs.declared.BadFrame.TheVariants as bad
-use Rattle.lt_model.specs.Outside.{FeedGrows, FeedReads, StaysTold}
+use Rattle.lt_terms.specs.declared.Format.TheVariants as format
+use Rattle.lt_world.specs.Feed.{Feed, Grows, stream_bytes}
+use Rattle.lt_terms.specs.Log.{Found, IsFound, malformed, partial, spelled, u32, whole}
+use Rattle.lt_terms.specs.declared.BadFrame.TheVariants as bad
+use Rattle.lt_world.specs.Feed.{FeedGrows, FeedReads}
+use Rattle.lt_world.specs.Object.{StaysTold}
 use Rattle.lt_codecs.proofs.FoundLaws.{stays_found}
-use Rattle.lt_laws.proofs.FrontLaws.{bytes_grow}
+use Rattle.lt_lemmas.proofs.FrontLaws.{bytes_grow}
 use Rattle.lt_records.specs.declared.record.Found as records
 use Rattle.lt_records.specs.declared.record.Found.TheVariants as found
 use Rattle.lt_records.specs.View.{view_found}

@@ -2,17 +2,19 @@
 use Rattle.std.proofs.Common.{List, [], ap, append-nil, append_assoc, arith, drop, false, length, map, refl, subst, sym, true, ℕ, ◌+◌, ◌-◌, ◌++◌, ◌<◌, ◌∙◌, ◌∷◌, ◌≡◌}
 use Rattle.std.specs.Prelude.{IfSome, IsTrue, None, Option, Some, flat_map}
 use Rattle.std.proofs.lemmas.List.{drop-drop, drop_at, length-append, length-drop}
-use Rattle.lt_model.specs.declared.Format.TheVariants as format
-use Rattle.lt_model.specs.Fair.{Feed, Grows, SuccessorsStand, stream_bytes}
-use Rattle.lt_model.specs.Key.{Range}
-use Rattle.lt_model.specs.Log.{Change, Header, IsFound, Item, batch_item, change_item, changes_of, checkpoint_item, close_item, header_item, is_item, spelled, whole}
-use Rattle.lt_model.specs.Machine.{StreamAt, Stops, StopsBy, Takes, moved_by}
-use Rattle.lt_model.specs.Outside.{FeedGrows, StaysTold}
-use Rattle.lt_model.specs.Reply as replies
-use Rattle.lt_model.specs.Schema.{Catalogue}
+use Rattle.lt_terms.specs.declared.Format.TheVariants as format
+use Rattle.lt_world.specs.Feed.{Feed, Grows, stream_bytes}
+use Rattle.lt_tables.specs.Fair.{SuccessorsStand}
+use Rattle.lt_terms.specs.Key.{Range}
+use Rattle.lt_terms.specs.Log.{Change, Header, IsFound, Item, batch_item, change_item, changes_of, checkpoint_item, close_item, header_item, is_item, spelled, whole}
+use Rattle.lt_tables.specs.Pump.{StreamAt, Stops, StopsBy, Takes, moved_by}
+use Rattle.lt_world.specs.Feed.{FeedGrows}
+use Rattle.lt_world.specs.Object.{StaysTold}
+use Rattle.lt_tables.specs.Pump as replies
+use Rattle.lt_tables.specs.Schema.{Catalogue}
 use Rattle.lt_codecs.proofs.FoundLaws.{whole_splits}
-use Rattle.lt_laws.proofs.PointLaws.{changes_of-append}
-use Rattle.lt_laws.proofs.TakenLaws.{moved_append, moved_none, takes_append, takes_grow, takes_rest}
+use Rattle.lt_lemmas.proofs.PointLaws.{changes_of-append}
+use Rattle.lt_lemmas.proofs.TakenLaws.{moved_append, moved_none, takes_append, takes_grow, takes_rest}
 use Rattle.lt_fair.specs.declared.refusal.Unfair.{Unfair}
 use Rattle.lt_records.specs.View.{view_found, view_item}
 use Rattle.lt_records.specs.declared.record.Found as records

@@ -3,10 +3,10 @@ use Rattle.std.proofs.Common.{Bool, List, [], ap, arith, false, refl, subst, sym
 use Rattle.std.specs.Prelude.{IsTrue, Some, nat_lt, slice_get}
 use Rattle.std.proofs.lemmas.Bool.{lt-ltb}
 use Rattle.std.proofs.lemmas.List.{length-map}
-use Rattle.lt_model.specs.Key.{Range, in_range}
-use Rattle.lt_model.specs.Log.{Change, change_key}
-use Rattle.lt_model.specs.Outside.{put_change}
-use Rattle.lt_model.specs.Schema.{change_at}
+use Rattle.lt_terms.specs.Key.{Range, in_range}
+use Rattle.lt_terms.specs.Log.{Change, change_key}
+use Rattle.lt_tables.specs.Pump.{put_change}
+use Rattle.lt_tables.specs.Schema.{change_at}
 use Rattle.lt_pump.proofs.GivenLaws.{given_low, given_none, given_one, known_there, there_below}
 use Rattle.lt_pump.specs.Given.{AreDisjoint, HasKey, IsOutOfAll, all_given}
 use Rattle.lt_pump.specs.View.{view_subscription}

@@ -3,14 +3,15 @@ use Rattle.std.proofs.Common.{Bool, List, [], ap, ap₂, arith, cond, eq-eqb, eq
 use Rattle.std.specs.Prelude.{IfSome, IsNone, IsTrue, None, Option, Some, min, nat_lt, not, option_and_then, slice_get, ◌&&◌, ◌==◌, ◌↔◌}
 use Rattle.std.proofs.lemmas.Bool.{and_from, and_parts, not-false}
 use Rattle.std.proofs.lemmas.List.{map-append, take_all}
-use Rattle.lt_model.specs.declared.Format.TheVariants as format
-use Rattle.lt_model.specs.Fair.{Feed}
-use Rattle.lt_model.specs.Key.{Range, below, first_bound, ranges_from, rise, tile}
-use Rattle.lt_model.specs.Log.{Header, body, fits_high, header_item, is_header, is_item}
-use Rattle.lt_model.specs.Machine.{StreamAt, behind_header}
-use Rattle.lt_model.specs.Run.{IsKeptLow, count_mismatch}
-use Rattle.lt_model.specs.Schema.{when}
-use Rattle.lt_codecs.proofs.ListFacts.{first, heads, second, tails, when_none}
+use Rattle.lt_terms.specs.declared.Format.TheVariants as format
+use Rattle.lt_world.specs.Feed.{Feed}
+use Rattle.lt_terms.specs.Key.{Range, below, first_bound, ranges_from, rise, tile}
+use Rattle.lt_terms.specs.Log.{Header, body, fits_high, header_item, is_header, is_item}
+use Rattle.lt_tables.specs.Pump.{StreamAt, behind_header}
+use Rattle.lt_tables.specs.Pump.{IsKeptLow, count_mismatch}
+use Rattle.lt_tables.specs.Schema.{when}
+use Rattle.lt_codecs.proofs.ListFacts.{first, heads, second, tails}
+use Rattle.lt_lemmas.proofs.ListFacts.{when_none}
 use Rattle.lt_pump.specs.Headers.{Fits}
 use Rattle.lt_pump.specs.Positions.{are_streams, range_of, stream_of}
 use Rattle.lt_pump.specs.declared.position.Position.{Position}

@@ -1,11 +1,11 @@
 -- Which changes a subscription is given.
 use Rattle.std.specs.Prelude.{List, IsTrue, [], false, fold, if◌then◌else◌, length, nat_lt, slice_get, Some, ℕ, ⊤, ◌&&◌, ◌∷◌, ◌≡◌, ◌≤◌, ◌⊎◌}
 use Rattle.std.specs.List.{AllByRecursion}
-use Rattle.lt_model.specs.Key.{Range, in_range}
-use Rattle.lt_model.specs.Fair.{window_ts}
-use Rattle.lt_model.specs.Log.{Change, change_key}
-use Rattle.lt_model.specs.Machine.{StreamAt}
-use Rattle.lt_model.specs.Outside.{put_change}
+use Rattle.lt_terms.specs.Key.{Range, in_range}
+use Rattle.lt_tables.specs.Fair.{window_ts}
+use Rattle.lt_terms.specs.Log.{Change, change_key}
+use Rattle.lt_tables.specs.Pump.{StreamAt}
+use Rattle.lt_tables.specs.Pump.{put_change}
 
 -- a change is given to the subscription whose range has its key, where its timestamp is above where that begins
 abbrev pub given : List Change → Range → ℕ → List Change → List Change

@@ -1,9 +1,10 @@
 -- The headers that streams begin with.
 use Rattle.std.specs.Prelude.{List, IsNone, IsTrue, None, Option, Some, length, ℕ, ◌+◌, ◌++◌, ◌≡◌, ◌↔◌}
-use Rattle.lt_model.specs.declared.Format.TheVariants as format
-use Rattle.lt_model.specs.Fair.{Feed, header_length, stream_bytes}
-use Rattle.lt_model.specs.Log.{Header, header_item, is_item, spelled}
-use Rattle.lt_model.specs.Run.{IsKeptLow, StreamOpens}
+use Rattle.lt_terms.specs.declared.Format.TheVariants as format
+use Rattle.lt_world.specs.Feed.{Feed, stream_bytes}
+use Rattle.lt_tables.specs.Fair.{header_length}
+use Rattle.lt_terms.specs.Log.{Header, header_item, is_item, spelled}
+use Rattle.lt_tables.specs.Pump.{IsKeptLow, StreamOpens}
 use Rattle.lt_records.specs.View.{view_header}
 use Rattle.lt_records.specs.declared.record.StreamHeader.{StreamHeader}
 

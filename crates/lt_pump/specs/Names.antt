@@ -1,14 +1,14 @@
 -- What is handed over, by name: a change's key and timestamp.
 use Rattle.std.specs.Prelude.{IsTrue, List, Option, map, zip, ℕ, ◌≡◌}
 use Rattle.std.specs.List.{AllByRecursion}
-use Rattle.lt_model.specs.Fair.{Feed}
-use Rattle.lt_model.specs.Key.{Range}
-use Rattle.lt_model.specs.Log.{Change, changes_of}
-use Rattle.lt_model.specs.Machine.{StreamAt, all_delivered, put_name}
-use Rattle.lt_model.specs.Outside.{name_of, put_change}
-use Rattle.lt_model.specs.Schema.{Catalogue}
-use Rattle.lt_model.specs.Sound.{names_rise}
-use Rattle.lt_model.specs.Store.{Part}
+use Rattle.lt_world.specs.Feed.{Feed}
+use Rattle.lt_terms.specs.Key.{Range}
+use Rattle.lt_terms.specs.Log.{Change, changes_of}
+use Rattle.lt_tables.specs.Pump.{StreamAt, all_delivered, put_name}
+use Rattle.lt_tables.specs.Pump.{name_of, put_change}
+use Rattle.lt_tables.specs.Schema.{Catalogue}
+use Rattle.lt_tables.specs.Pump.{names_rise}
+use Rattle.lt_tables.specs.Pump.{Part}
 use Rattle.lt_pump.specs.Given.{AreBehind}
 use Rattle.lt_pump.specs.Positions.{IsOther, Took}
 

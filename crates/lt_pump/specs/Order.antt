@@ -1,7 +1,7 @@
 -- Subscriptions in the order of their low bounds.
 use Rattle.std.specs.Prelude.{List, IsTrue, Some, false, length, map, slice_get, slice_index_or, ℕ, ◌<◌, ◌≡◌, ◌≤◌}
 use Rattle.std.specs.List.{All}
-use Rattle.lt_model.specs.Key.{below, in_range}
+use Rattle.lt_terms.specs.Key.{below, in_range}
 use Rattle.lt_core.specs.View.{view_range}
 use Rattle.lt_pump.specs.Given.{IsOutOfAll}
 use Rattle.lt_pump.specs.View.{view_subscription}

@@ -1,13 +1,14 @@
 -- Where a stream stands, and what taking its records leaves.
 use Rattle.std.specs.Prelude.{Bool, List, None, Option, Some, IfSome, IsTrue, [], drop, false, length, true, ℕ, ⊤, ◌&&◌, ◌+◌, ◌++◌, ◌<◌, ◌==◌, ◌∷◌, ◌≡◌, ◌≤◌}
-use Rattle.lt_model.specs.declared.Format.TheVariants as format
-use Rattle.lt_model.specs.Fair as fair
-use Rattle.lt_model.specs.Fair.{Feed, breaks_at, point_after, stream_bytes}
-use Rattle.lt_model.specs.Key.{Range}
-use Rattle.lt_model.specs.Log.{Change, Item, change_key, changes_of, header_item, is_item, spelled}
-use Rattle.lt_model.specs.Machine.{StreamAt, Stops, StopsBy, Takes, moved_by}
-use Rattle.lt_model.specs.Reply as replies
-use Rattle.lt_model.specs.Schema.{Catalogue}
+use Rattle.lt_terms.specs.declared.Format.TheVariants as format
+use Rattle.lt_tables.specs.Fair as fair
+use Rattle.lt_world.specs.Feed.{Feed, stream_bytes}
+use Rattle.lt_tables.specs.Fair.{breaks_at, point_after}
+use Rattle.lt_terms.specs.Key.{Range}
+use Rattle.lt_terms.specs.Log.{Change, Item, change_key, changes_of, header_item, is_item, spelled}
+use Rattle.lt_tables.specs.Pump.{StreamAt, Stops, StopsBy, Takes, moved_by}
+use Rattle.lt_tables.specs.Pump as replies
+use Rattle.lt_tables.specs.Schema.{Catalogue}
 use Rattle.lt_fair.specs.View.{header_of, point_in, view_unfair}
 use Rattle.lt_fair.specs.declared.refusal.Unfair.{Unfair}
 use Rattle.lt_pump.specs.Given.{all_given}

@@ -1,12 +1,12 @@
 -- What a pump stands for, and what its calls leave.
 use Rattle.std.specs.Prelude.{List, Option, Some, IfSome, map, slice_get, slice_set, ℕ, ◌≡◌, ◌≢◌}
-use Rattle.lt_model.specs.Fair.{Feed}
-use Rattle.lt_model.specs.Disk.{Rose}
-use Rattle.lt_model.specs.Key.{Range}
-use Rattle.lt_model.specs.Log.{Change, Header}
-use Rattle.lt_model.specs.Machine.{StreamAt, behind_header}
-use Rattle.lt_model.specs.Run.{Attaches, IsMismatch}
-use Rattle.lt_model.specs.Schema.{Catalogue}
+use Rattle.lt_world.specs.Feed.{Feed}
+use Rattle.lt_world.specs.Disk.{Rose}
+use Rattle.lt_terms.specs.Key.{Range}
+use Rattle.lt_terms.specs.Log.{Change, Header}
+use Rattle.lt_tables.specs.Pump.{StreamAt, behind_header}
+use Rattle.lt_tables.specs.Pump.{Attaches, IsMismatch}
+use Rattle.lt_tables.specs.Schema.{Catalogue}
 use Rattle.lt_pump.specs.Given.{AreBehind}
 use Rattle.lt_pump.specs.Positions.{Ran, RanSome, low_of, stream_of}
 use Rattle.lt_pump.specs.View.{view_stop}

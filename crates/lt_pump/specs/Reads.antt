@@ -1,8 +1,8 @@
 -- What reading ahead goes by.
 use Rattle.std.specs.Prelude.{Bool, List, Option, IfSome, drop, false, true, ℕ, ◌++◌, ◌≡◌}
-use Rattle.lt_model.specs.declared.Format.TheVariants as format
-use Rattle.lt_model.specs.Fair.{Feed, stream_bytes}
-use Rattle.lt_model.specs.Log.{Found, IsFound, malformed, partial, whole}
+use Rattle.lt_terms.specs.declared.Format.TheVariants as format
+use Rattle.lt_world.specs.Feed.{Feed, stream_bytes}
+use Rattle.lt_terms.specs.Log.{Found, IsFound, malformed, partial, whole}
 use Rattle.lt_pump.specs.declared.ahead.Ahead.{Ahead}
 
 -- the bytes that are not taken

@@ -1,7 +1,8 @@
 -- What the types of a pump stand for in the definitions.
 use Rattle.std.specs.Prelude.{ℕ}
-use Rattle.lt_model.specs.Key as keys
-use Rattle.lt_model.specs.Reply as replies
+use Rattle.lt_terms.specs.Key as keys
+use Rattle.lt_words.specs.Reply as replies
+use Rattle.lt_tables.specs.Pump as replies_tables
 use Rattle.lt_core.specs.View.{view_range}
 use Rattle.lt_fair.specs.View.{view_unfair}
 use Rattle.lt_pump.specs.declared.refusal.AttachRefusal.{AttachRefusal}
@@ -17,12 +18,12 @@ use Rattle.lt_pump.specs.declared.subscription.Subscription.{Subscription}
 abbrev pub view_subscription : Subscription → keys.Range × ℕ
 view_subscription s = (view_range s.range, s.from)
 
-abbrev pub view_stop : Stop → replies.Stop
-view_stop stops.Count = replies.at_count
-view_stop stops.End = replies.at_end
-view_stop stops.Partial = replies.at_partial
-view_stop (stops.Malformed bad) = replies.at_malformed bad
-view_stop (stops.Unfair u) = replies.at_unfair (view_unfair u)
+abbrev pub view_stop : Stop → replies_tables.Stop
+view_stop stops.Count = replies_tables.at_count
+view_stop stops.End = replies_tables.at_end
+view_stop stops.Partial = replies_tables.at_partial
+view_stop (stops.Malformed bad) = replies_tables.at_malformed bad
+view_stop (stops.Unfair u) = replies_tables.at_unfair (view_unfair u)
 
 -- the reply to a pump of a stream
 abbrev pub view_pumped : ℕ → Pumped → replies.Reply

@@ -5,10 +5,10 @@
 
 ghost use Rattle.std.specs.Prelude.{◌≡◌, ◌+◌, ◌<◌, ◌≤◌, ◌↔◌, IfErr, IfOk, IfSome, IsErrOf, OnOk, Some, length, true};
 ghost use Rattle.std.specs.Option.{option_copied};
-ghost use Rattle.lt_model.specs.Disk.{Rose};
-ghost use Rattle.lt_model.specs.Fair.{Feed as Streams};
-ghost use Rattle.lt_model.specs.Run.{IsKeptLow, count_mismatch};
-ghost use Rattle.lt_model.specs.Outside.{FeedGoes};
+ghost use Rattle.lt_world.specs.Disk.{Rose};
+ghost use Rattle.lt_world.specs.Feed.{Feed as Streams};
+ghost use Rattle.lt_tables.specs.Pump.{IsKeptLow, count_mismatch};
+ghost use Rattle.lt_world.specs.Feed.{FeedGoes};
 ghost use Rattle.lt_pump.specs.Headers.{Begins, Fits, IsFramed};
 ghost use Rattle.lt_pump.specs.Pumps.{AttachRefused, HasAttached, refusal_of, streams_of};
 ghost use Rattle.lt_pump.specs.declared.refusal.AttachRefusal.TheVariants as refusals;
@@ -78,9 +78,11 @@ impl Pump {
         feed: &mut F,
         kept: Option<&Lows>,
     ) -> Result<Pump, AttachRefusal>
-        ensures attached { IfOk result (λ pump. HasAttached (F.state feed.new).told (option_copied kept.entry) (streams_of pump)) }
+        ensures attached { IfOk result (λ pump. HasAttached (F.state feed.new).told (option_copied kept.entry)
+            (streams_of pump)) }
         ensures known { IfOk result (λ pump. length (streams_of pump) ≤ (F.state feed.new).known) }
-        ensures refused { IfErr result (AttachRefused (F.state feed.new).told (option_copied kept.entry) (F.state feed.old).faults (F.state feed.new).faults) }
+        ensures refused { IfErr result (AttachRefused (F.state feed.new).told (option_copied kept.entry)
+            (F.state feed.old).faults (F.state feed.new).faults) }
         ensures faults { OnOk result ((F.state feed.new).faults ≡ (F.state feed.old).faults) }
         ensures called { OnOk result (Rose (F.state feed.old).calls (F.state feed.new).calls) }
         ensures feed { FeedGoes (F.state feed.old) (F.state feed.new) }
@@ -157,7 +159,8 @@ fn goes_on(
     kept: Option<&Lows>,
 ) -> bool
     requires { stream < count }
-    ensures { (f : Streams) → length f ≡ count → (result ≡ true) ↔ Fits f (option_copied kept.entry) stream bound.now (view_header header.now) }
+    ensures { (f : Streams) → length f ≡ count
+        → (result ≡ true) ↔ Fits f (option_copied kept.entry) stream bound.now (view_header header.now) }
 {
     let low = &header.range.low;
     header.stream == stream

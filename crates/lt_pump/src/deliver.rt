@@ -2,10 +2,10 @@
 
 ghost use Rattle.std.specs.Prelude.{◌≡◌, ◌<◌, [], List, IsTrue, OnErr, OnOk, length, slice_get, unwrap_or};
 ghost use Rattle.std.specs.List.{AllByRecursion};
-ghost use Rattle.lt_model.specs.Log.{Change, change_key};
-ghost use Rattle.lt_model.specs.Outside.{holds_change, is_deliverable, put_change, without_change};
-ghost use Rattle.lt_model.specs.Schema as schema;
-ghost use Rattle.lt_model.specs.Schema.{change_at};
+ghost use Rattle.lt_terms.specs.Log.{Change, change_key};
+ghost use Rattle.lt_tables.specs.Pump.{holds_change, is_deliverable, put_change, without_change};
+ghost use Rattle.lt_tables.specs.Schema as schema;
+ghost use Rattle.lt_tables.specs.Schema.{change_at};
 ghost use Rattle.lt_records.specs.View.{view_change};
 
 use lt_core::{KeyBytes, Memory, Ts};
@@ -24,7 +24,8 @@ pub trait Deliver {
         requires known { sub < length (held self.old) }
         requires key { key.now ≡ change_key (view_change change.now) }
         requires lawful { IsTrue (is_deliverable (catalogue self.old) (view_change change.now)) }
-        requires fresh { AllByRecursion (λ c. (change_key c ≡ change_key (view_change change.now)) → c.ts ≡ (view_change change.now).ts → ⊥) (unwrap_or (slice_get (held self.old) sub) []) }
+        requires fresh { AllByRecursion (λ c. (change_key c ≡ change_key (view_change change.now))
+            → c.ts ≡ (view_change change.now).ts → ⊥) (unwrap_or (slice_get (held self.old) sub) []) }
         ensures ok { OnOk result (held self.new ≡ change_at (put_change (view_change change.now)) sub (held self.old)) }
         ensures err { OnErr result (held self.new ≡ held self.old) }
         ensures catalogue { catalogue self.new ≡ catalogue self.old };

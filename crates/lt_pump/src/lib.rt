@@ -20,14 +20,11 @@ pub use deliver::Deliver;
 pub use lt_core::{KeyBytes, Memory, Range, Ts};
 pub use lt_fair::{Point, Unfair};
 pub use lt_io::Feed;
-pub use lt_model::BadFrame;
 pub use lt_records::ChangeRecord;
 pub use lt_schema::Catalogue;
+pub use lt_terms::BadFrame;
 pub use names::names_follow;
 pub use pump::Pump;
 pub use refusal::{AttachRefusal, PumpFault};
 pub use stop::{Pumped, Stop};
 pub use subscription::{Lows, Subscription, Subscriptions};
-
-#[cfg(test)]
-mod tests;

@@ -1,7 +1,7 @@
 //! Subscriptions in the order of their low bounds: the one of a key is found in time logarithmic in their number.
 
 ghost use Rattle.std.specs.Prelude.{◌≡◌, IfNone, IfOk, IfSome, map, not};
-ghost use Rattle.lt_model.specs.Key.{below};
+ghost use Rattle.lt_terms.specs.Key.{below};
 ghost use Rattle.lt_pump.specs.Given.{AreDisjoint, HasKey, IsOutOfAll};
 ghost use Rattle.lt_pump.specs.Order.{AreOwners};
 ghost use Rattle.lt_pump.specs.View.{view_subscription};

@@ -5,17 +5,17 @@
 //! was handed in, each test goes over its window until a change is taken.
 
 ghost use Rattle.std.specs.Prelude.{◌≡◌, ◌-◌, ◌+◌, ◌<◌, ◌≤◌, ◌^◌, ◌∷◌, [], IfNone, IfOk, IfSome, IsErrOf, IsTrue, None, OnErr, OnOk, Some, length, map, option_map, slice_get, unwrap_or};
-ghost use Rattle.lt_model.specs.declared.Format.TheVariants as format;
-ghost use Rattle.lt_model.specs.Disk.{Rose};
-ghost use Rattle.lt_model.specs.Fair.{header_length};
+ghost use Rattle.lt_terms.specs.declared.Format.TheVariants as format;
+ghost use Rattle.lt_world.specs.Disk.{Rose};
+ghost use Rattle.lt_tables.specs.Fair.{header_length};
 ghost use Rattle.std.specs.List.{AllByRecursion};
-ghost use Rattle.lt_model.specs.Log.{change_item, change_key, changes_in, is_item, spelled};
-ghost use Rattle.lt_model.specs.Machine.{behind_header};
-ghost use Rattle.lt_model.specs.Outside.{holds_change, is_deliverable, put_change, without_change};
-ghost use Rattle.lt_model.specs.Schema.{change_at};
+ghost use Rattle.lt_terms.specs.Log.{change_item, change_key, changes_in, is_item, spelled};
+ghost use Rattle.lt_tables.specs.Pump.{behind_header};
+ghost use Rattle.lt_tables.specs.Pump.{holds_change, is_deliverable, put_change, without_change};
+ghost use Rattle.lt_tables.specs.Schema.{change_at};
 ghost use Rattle.lt_records.specs.View.{view_change, view_header, view_item};
 ghost use Rattle.lt_fair.specs.View.{view_point, view_unfair};
-ghost use Rattle.lt_model.specs.Outside.{FeedGoes};
+ghost use Rattle.lt_world.specs.Feed.{FeedGoes};
 ghost use Rattle.lt_pump.specs.Given.{AreBehind, AreSubscriptions, all_given};
 ghost use Rattle.lt_pump.specs.Positions.{IsOther, Keeps, Ran, RanSome, Steps, breaks_there, stream_of, with_item};
 ghost use Rattle.lt_pump.specs.Reads.{StandAhead, left_of};
@@ -97,8 +97,10 @@ impl Position {
         requires subs { AreSubscriptions (map view_subscription subs.now) (V.held to.old) }
         requires catalogue { cat.now ≡ V.catalogue to.old }
         requires behind { AreBehind (stream_of self.old) (V.held to.old) }
-        ensures ran { IfOk result (λ r. Ran (F.state feed.new).told cat.now (map view_subscription subs.now) (stream_of self.old) (stream_of self.new) (V.held to.old) (V.held to.new) n r.0 (view_stop r.1)) }
-        ensures some { OnErr result (RanSome (F.state feed.new).told cat.now (map view_subscription subs.now) (stream_of self.old) (stream_of self.new) (V.held to.old) (V.held to.new) n) }
+        ensures ran { IfOk result (λ r. Ran (F.state feed.new).told cat.now (map view_subscription subs.now)
+            (stream_of self.old) (stream_of self.new) (V.held to.old) (V.held to.new) n r.0 (view_stop r.1)) }
+        ensures some { OnErr result (RanSome (F.state feed.new).told cat.now (map view_subscription subs.now)
+            (stream_of self.old) (stream_of self.new) (V.held to.old) (V.held to.new) n) }
         ensures behind { AreBehind (stream_of self.new) (V.held to.new) }
         ensures lists { length (V.held to.new) ≡ length (V.held to.old) }
         ensures catalogue { V.catalogue to.new ≡ V.catalogue to.old }
@@ -140,7 +142,8 @@ impl Position {
         requires place { length (left_of ahead.old) ≤ 2 ^ 63 - self.old.offset }
         requires ahead { StandAhead (F.state feed.old).told stream self.old.offset (left_of ahead.old) }
         ensures place { OnOk result (length (left_of ahead.new) ≤ 2 ^ 63 - self.new.offset) }
-        ensures step { IfOk result (Steps (F.state feed.new).told cat.now (map view_subscription subs.now) (stream_of self.old) (stream_of self.new) (V.held to.old) (V.held to.new) (left_of ahead.new)) }
+        ensures step { IfOk result (Steps (F.state feed.new).told cat.now (map view_subscription subs.now)
+            (stream_of self.old) (stream_of self.new) (V.held to.old) (V.held to.new) (left_of ahead.new)) }
         ensures unmoved { OnErr result ((stream_of self.new ≡ stream_of self.old) × (V.held to.new ≡ V.held to.old)) }
         ensures behind { AreBehind (stream_of self.new) (V.held to.new) }
         ensures lists { length (V.held to.new) ≡ length (V.held to.old) }
@@ -184,7 +187,8 @@ impl Position {
         requires subs { AreSubscriptions (map view_subscription subs.now) (V.held to.old) }
         requires catalogue { cat.now ≡ V.catalogue to.old }
         requires behind { AreBehind (stream_of self.old) (V.held to.old) }
-        ensures keeps { IfOk result (Keeps cat.now (map view_subscription subs.now) (stream_of self.old) (stream_of self.new) (V.held to.old) (V.held to.new) (view_item item.now)) }
+        ensures keeps { IfOk result (Keeps cat.now (map view_subscription subs.now) (stream_of self.old)
+            (stream_of self.new) (V.held to.old) (V.held to.new) (view_item item.now)) }
         ensures offset { IfOk result (λ o. IfNone o (self.new.offset ≡ self.old.offset + size)) }
         ensures unmoved { OnErr result ((stream_of self.new ≡ stream_of self.old) × (V.held to.new ≡ V.held to.old)) }
         ensures behind { AreBehind (stream_of self.new) (V.held to.new) }
@@ -200,7 +204,8 @@ impl Position {
 
     /// The rule that a record breaks, if any.
     fn fault(&self, cat: &Catalogue, item: &LogRecord) -> Result<Option<Unfair>, Memory>
-        ensures { IfOk result (λ o. breaks_there cat.now (stream_of self.now) (view_item item.now) ≡ option_map view_unfair o) }
+        ensures { IfOk result (λ o. breaks_there cat.now (stream_of self.now) (view_item item.now) ≡ option_map
+            view_unfair o) }
     {
         match self.checker.test(cat, item) {
             Ok(()) => Ok(None),
@@ -223,7 +228,8 @@ impl Position {
         requires catalogue { cat.now ≡ V.catalogue to.old }
         requires behind { AreBehind (stream_of self.old) (V.held to.old) }
         ensures ok { OnOk result (stream_of self.new ≡ with_item (stream_of self.old) (view_item item.now)) }
-        ensures given { OnOk result (V.held to.new ≡ all_given (changes_in (view_item item.now)) (map view_subscription subs.now) (V.held to.old)) }
+        ensures given { OnOk result (V.held to.new ≡ all_given (changes_in (view_item item.now))
+            (map view_subscription subs.now) (V.held to.old)) }
         ensures behind { OnOk result (AreBehind (stream_of self.new) (V.held to.new)) }
         ensures unmoved { OnErr result ((stream_of self.new ≡ stream_of self.old) × (V.held to.new ≡ V.held to.old)) }
         ensures catalogue { V.catalogue to.new ≡ V.catalogue to.old }
@@ -250,7 +256,8 @@ impl Position {
         requires catalogue { cat.now ≡ V.catalogue to.old }
         requires behind { AreBehind (stream_of self.old) (V.held to.old) }
         ensures ok { OnOk result (stream_of self.new ≡ with_item (stream_of self.old) (view_item item.now)) }
-        ensures given { OnOk result (V.held to.new ≡ all_given (view_change change.now ∷ []) (map view_subscription subs.now) (V.held to.old)) }
+        ensures given { OnOk result (V.held to.new ≡ all_given (view_change change.now
+            ∷ []) (map view_subscription subs.now) (V.held to.old)) }
         ensures unmoved { OnErr result ((stream_of self.new ≡ stream_of self.old) × (V.held to.new ≡ V.held to.old)) }
         ensures catalogue { V.catalogue to.new ≡ V.catalogue to.old }
     {
@@ -267,12 +274,14 @@ impl Position {
 
     /// Takes a fair record.
     fn take(&mut self, cat: &Catalogue, item: &LogRecord) -> Result<(), Memory>
+        requires fair { breaks_there cat.now (stream_of self.old) (view_item item.now) ≡ None }
         ensures ok { OnOk result (stream_of self.new ≡ with_item (stream_of self.old) (view_item item.now)) }
         ensures err { OnErr result (stream_of self.new ≡ stream_of self.old) }
     {
         match self.checker.take(cat, item) {
             Ok(()) => Ok(()),
-            Err(_) => Err(Memory),
+            Err(TakeRefusal::Memory) => Err(Memory),
+            Err(TakeRefusal::Unfair(_)) => unreachable!(),
         }
     }
 }
@@ -288,8 +297,10 @@ fn hand<V: Deliver>(
     requires subs { AreSubscriptions (map view_subscription subs.now) (V.held to.old) }
     requires lawful { IsTrue (is_deliverable (V.catalogue to.old) (view_change change.now)) }
     requires fresh { AllByRecursion (AllByRecursion (IsOther (view_change change.now))) (V.held to.old) }
-    ensures given { OnOk result (V.held to.new ≡ all_given (view_change change.now ∷ []) (map view_subscription subs.now) (V.held to.old)) }
-    ensures some { IfOk result (λ o. IfSome o (λ i. (i < length (V.held to.old)) × (V.held to.new ≡ change_at (put_change (view_change change.now)) i (V.held to.old)))) }
+    ensures given { OnOk result (V.held to.new ≡ all_given (view_change change.now
+        ∷ []) (map view_subscription subs.now) (V.held to.old)) }
+    ensures some { IfOk result (λ o. IfSome o (λ i. (i < length (V.held to.old))
+        × (V.held to.new ≡ change_at (put_change (view_change change.now)) i (V.held to.old)))) }
     ensures none { IfOk result (λ o. IfNone o (V.held to.new ≡ V.held to.old)) }
     ensures err { OnErr result (V.held to.new ≡ V.held to.old) }
     ensures catalogue { V.catalogue to.new ≡ V.catalogue to.old }
@@ -307,7 +318,8 @@ fn hand<V: Deliver>(
 
 /// Takes a change back from the subscription that has it, if one has.
 fn undo<V: Deliver>(given: Option<usize>, key: &KeyBytes, ts: Ts, to: &mut V)
-    requires { IfSome given (λ i. (i < length (V.held to.old)) × IsTrue (holds_change key.now ts (unwrap_or (slice_get (V.held to.old) i) []))) }
+    requires { IfSome given (λ i. (i < length (V.held to.old))
+        × IsTrue (holds_change key.now ts (unwrap_or (slice_get (V.held to.old) i) []))) }
     ensures some { IfSome given (λ i. V.held to.new ≡ change_at (without_change key.now ts) i (V.held to.old)) }
     ensures none { IfNone given (V.held to.new ≡ V.held to.old) }
     ensures catalogue { V.catalogue to.new ≡ V.catalogue to.old }

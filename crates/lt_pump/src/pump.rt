@@ -1,7 +1,7 @@
 //! The streams of a feed, each with the place behind the records that were taken of it.
 
 ghost use Rattle.std.specs.Prelude.{◌≡◌, ◌≤◌, IsTrue, length, map};
-ghost use Rattle.lt_model.specs.Key.{ranges_from, tile};
+ghost use Rattle.lt_terms.specs.Key.{ranges_from, tile};
 ghost use Rattle.lt_pump.specs.Positions.{are_streams, low_of, range_of, stream_of};
 
 use crate::deliver::Deliver;
@@ -30,11 +30,11 @@ pub struct Pump {
 
 impl Pump {
     ghost use Rattle.std.specs.Prelude.{◌<◌, ◌↔◌, IfOk, IfSome, IsErrOf, OnErr, OnOk, slice_get, slice_set};
-    ghost use Rattle.lt_model.specs.Schema.{change_at};
+    ghost use Rattle.lt_tables.specs.Schema.{change_at};
     ghost use Rattle.lt_pump.specs.Positions.{started};
-    ghost use Rattle.lt_model.specs.Disk.{Rose};
+    ghost use Rattle.lt_world.specs.Disk.{Rose};
     ghost use Rattle.lt_fair.specs.View.{view_point};
-    ghost use Rattle.lt_model.specs.Outside.{FeedGoes};
+    ghost use Rattle.lt_world.specs.Feed.{FeedGoes};
     ghost use Rattle.lt_pump.specs.Given.{AreAllBehind, AreBehind, AreSubscriptions};
     ghost use Rattle.lt_pump.specs.Pumps.{HasPumped, HasPumpedSome, OthersStay, streams_of};
     ghost use Rattle.lt_pump.specs.View.{view_subscription};
@@ -67,22 +67,29 @@ impl Pump {
         requires subs { AreSubscriptions (map view_subscription subs.now) (V.held to.old) }
         requires catalogue { cat.now ≡ V.catalogue to.old }
         requires behind { IfSome (slice_get (streams_of self.old) stream) (λ a. AreBehind a (V.held to.old)) }
-        ensures pumped { IfOk result (HasPumped (F.state feed.new).told cat.now stream n (map view_subscription subs.now) (streams_of self.old) (streams_of self.new) (V.held to.old) (V.held to.new)) }
+        ensures pumped { IfOk result (HasPumped (F.state feed.new).told cat.now stream n
+            (map view_subscription subs.now) (streams_of self.old) (streams_of self.new) (V.held to.old)
+            (V.held to.new)) }
 
         // After a fault the stream stands behind the last record taken.
-        ensures some { stream < length (streams_of self.old) → OnErr result (HasPumpedSome (F.state feed.new).told cat.now stream n (map view_subscription subs.now) (streams_of self.old) (streams_of self.new) (V.held to.old) (V.held to.new)) }
+        ensures some { stream < length (streams_of self.old)
+            → OnErr result (HasPumpedSome (F.state feed.new).told cat.now stream n
+            (map view_subscription subs.now) (streams_of self.old) (streams_of self.new) (V.held to.old)
+            (V.held to.new)) }
 
         // What the next call needs, of this stream or of another.
         ensures behind { IfSome (slice_get (streams_of self.new) stream) (λ a. AreBehind a (V.held to.new)) }
         ensures others { OthersStay (streams_of self.old) stream (V.held to.old) (V.held to.new) }
-        ensures all { AreAllBehind (streams_of self.old) (V.held to.old) → AreAllBehind (streams_of self.new) (V.held to.new) }
+        ensures all { AreAllBehind (streams_of self.old) (V.held to.old)
+            → AreAllBehind (streams_of self.new) (V.held to.new) }
         ensures streams { length (streams_of self.new) ≡ length (streams_of self.old) }
         ensures lists { length (V.held to.new) ≡ length (V.held to.old) }
         ensures catalogue { V.catalogue to.new ≡ V.catalogue to.old }
 
         // A stream that is not known leaves all as it was.
         ensures no_stream { IsErrOf result PumpFault.NoStream ↔ (length (streams_of self.old) ≤ stream) }
-        ensures untouched { length (streams_of self.old) ≤ stream → (streams_of self.new ≡ streams_of self.old) × (feed.new ≡ feed.old) × (to.new ≡ to.old) }
+        ensures untouched { length (streams_of self.old) ≤ stream → (streams_of self.new ≡ streams_of self.old)
+            × (feed.new ≡ feed.old) × (to.new ≡ to.old) }
 
         // The feed, and the cause of its fault.
         ensures fault { IsErrOf result PumpFault.Feed → Rose (F.state feed.old).faults (F.state feed.new).faults }
@@ -132,7 +139,8 @@ impl Pump {
     /// What the check of a stream keeps, as a copy.
     pub fn point(&self, stream: u32) -> Result<Point, Memory>
         requires { stream < length (streams_of self.now) }
-        ensures { IfOk result (λ point. IfSome (slice_get (streams_of self.now) stream) (λ a. view_point point ≡ a.point)) }
+        ensures { IfOk result (λ point. IfSome (slice_get (streams_of self.now) stream)
+            (λ a. view_point point ≡ a.point)) }
     {
         self.positions[stream as usize].point()
     }

@@ -4,11 +4,11 @@
 //! one record or more reads at least once. A look at the front that finds too few bytes takes constant time, so the rest takes time by the bytes.
 
 ghost use Rattle.std.specs.Prelude.{◌≡◌, ◌+◌, ◌-◌, ◌<◌, ◌≤◌, ◌^◌, [], length, false, true, IfOk, IfSome, OnOk, IsErrOf};
-ghost use Rattle.lt_model.specs.Disk.{Rose};
-ghost use Rattle.lt_model.specs.Outside.{FeedReads};
+ghost use Rattle.lt_world.specs.Disk.{Rose};
+ghost use Rattle.lt_world.specs.Feed.{FeedReads};
 ghost use Rattle.lt_records.specs.Reading.{NothingElse};
 ghost use Rattle.lt_records.specs.View.{view_found};
-ghost use Rattle.lt_model.specs.Outside.{FeedGoes};
+ghost use Rattle.lt_world.specs.Feed.{FeedGoes};
 ghost use Rattle.lt_pump.specs.Reads.{FoundAhead, IsWhole, More, StandAhead, left_of};
 ghost use Rattle.lt_pump.specs.declared.reading.Fault.TheVariants as faults;
 
@@ -63,7 +63,8 @@ pub fn find<F: Feed>(
     requires place { length (left_of ahead.old) ≤ 2 ^ 63 - offset }
     requires ahead { StandAhead (F.state feed.old).told stream offset (left_of ahead.old) }
     ensures place { OnOk result (length (left_of ahead.new) ≤ 2 ^ 63 - offset) }
-    ensures found { IfOk result (λ found. IfSome (F.state feed.new).told (λ f. FoundAhead f stream offset (left_of ahead.new) (view_found found))) }
+    ensures found { IfOk result (λ found. IfSome (F.state feed.new).told
+        (λ f. FoundAhead f stream offset (left_of ahead.new) (view_found found))) }
     ensures whole { IfOk result (λ found. IsWhole (view_found found) (left_of ahead.new)) }
     ensures only { IfOk result (λ found. NothingElse (left_of ahead.new) (view_found found)) }
     ensures fault { IsErrOf result Fault.Feed → Rose (F.state feed.old).faults (F.state feed.new).faults }
@@ -90,7 +91,8 @@ fn more<F: Feed>(stream: u32, offset: u64, ahead: &mut Ahead, feed: &mut F) -> R
     requires place { length (left_of ahead.old) ≤ 2 ^ 63 - offset }
     requires ahead { StandAhead (F.state feed.old).told stream offset (left_of ahead.old) }
     ensures place { OnOk result (length (left_of ahead.new) ≤ 2 ^ 63 - offset) }
-    ensures more { IfOk result (λ some. IfSome (F.state feed.new).told (λ f. More some f stream offset (left_of ahead.old) (left_of ahead.new))) }
+    ensures more { IfOk result (λ some. IfSome (F.state feed.new).told
+        (λ f. More some f stream offset (left_of ahead.old) (left_of ahead.new))) }
     ensures same { IfOk result (λ some. some ≡ false → left_of ahead.new ≡ left_of ahead.old) }
     ensures longer { IfOk result (λ some. some ≡ true → length (left_of ahead.old) < length (left_of ahead.new)) }
     ensures fault { IsErrOf result Fault.Feed → Rose (F.state feed.old).faults (F.state feed.new).faults }
@@ -131,7 +133,8 @@ fn read_behind<F: Feed>(
     requires place { length (left_of ahead.now) ≤ 2 ^ 63 - offset }
     requires room { 0 < length piece.old }
     ensures bound { IfOk result (λ n. (n ≤ length piece.new) × (length (left_of ahead.now) + n ≤ 2 ^ 63 - offset)) }
-    ensures bytes { IfOk result (λ n. FeedReads (F.state feed.new).told stream (offset + length (left_of ahead.now)) piece.new n) }
+    ensures bytes { IfOk result (λ n. FeedReads (F.state feed.new).told stream (offset + length (left_of ahead.now))
+        piece.new n) }
     ensures fault { IsErrOf result Fault.Feed → Rose (F.state feed.old).faults (F.state feed.new).faults }
     ensures kept { OnOk result ((F.state feed.new).faults ≡ (F.state feed.old).faults) }
     ensures lacks { IsErrOf result Fault.Memory → (F.state feed.new).faults ≡ (F.state feed.old).faults }

@@ -2,7 +2,7 @@
 
 use lt_core::Ts;
 use lt_fair::Unfair;
-use lt_model::BadFrame;
+use lt_terms::BadFrame;
 
 /// Why a pump stops.
 #[derive(Clone, Copy, Debug, PartialEq, Eq)]

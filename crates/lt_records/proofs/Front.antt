@@ -2,12 +2,13 @@
 use Rattle.std.proofs.Common.{◌≡◌, ℕ, ◌-◌, ◌++◌, List, length, drop, take, Some, Result, Ok, Err, sym, ap, subst, ◌∙◌, false, ltb, le-ltb, arith}
 use Rattle.std.specs.Prelude.{IfOk}
 use Rattle.std.proofs.lemmas.List.{take_all, take-append-drop}
-use Rattle.lt_model.specs.declared.Format.TheVariants as format
+use Rattle.lt_terms.specs.declared.Format.TheVariants as format
 use Rattle.std.specs.Prelude.{IsTrue}
-use Rattle.lt_codecs.proofs.LogLaws.{first, values_prefix_free}
+use Rattle.lt_codecs.proofs.ListFacts.{first}
+use Rattle.lt_codecs.proofs.LogLaws.{values_prefix_free}
 use Rattle.lt_records.specs.declared.record.LogRecord.{LogRecord}
-use Rattle.lt_model.specs.Log.{IsFound, IsValueFront, is_content, value_bytes, whole}
-use Rattle.lt_model.specs.Value.{Value}
+use Rattle.lt_terms.specs.Log.{IsFound, IsValueFront, is_content, value_bytes, whole}
+use Rattle.lt_terms.specs.Value.{Value}
 use Rattle.lt_codecs.specs.Codec.{IsBytes}
 use Rattle.lt_codecs.specs.LogCodec.{found, log_value, value}
 use Rattle.lt_codecs.proofs.Codecs.{guard_none}

@@ -4,7 +4,7 @@ use Rattle.std.specs.List.{count_by}
 use Rattle.std.proofs.lemmas.Bool.{lt-leb}
 use Rattle.std.proofs.lemmas.List.Folds.{flat_map-map, length-flat_map-take}
 use Rattle.std.proofs.lemmas.List.Sums.{sum_by-cons}
-use Rattle.lt_model.specs.Key.{escaped, part_bytes}
+use Rattle.lt_terms.specs.Key.{escaped, part_bytes}
 use Rattle.lt_core.specs.View.{view_part, view_parts}
 use Rattle.lt_core.specs.declared.key.KeyPart.{KeyPart}
 

@@ -1,5 +1,4 @@
 pub mod Depth
-pub mod Fixtures
 pub mod Front
 pub mod KeyLength
 pub mod Loop

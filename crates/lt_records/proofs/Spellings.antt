@@ -5,15 +5,16 @@ use Rattle.std.specs.List.{AllByRecursion, list_all}
 use Rattle.std.specs.Str.{is_utf8}
 use Rattle.std.proofs.lemmas.List.{append-nil, length-map}
 use Rattle.std.proofs.lemmas.List.Elements.{All-from_recursion}
-use Rattle.lt_model.specs.Log as log
-use Rattle.lt_model.specs.declared.Format.TheVariants as format
-use Rattle.lt_model.specs.Key.{int_part, text_part}
-use Rattle.lt_model.specs.Log.{IsFrame, bit, body, field_bytes, is_change, is_content, is_header, is_log_part, kind_byte, magic, spelled}
-use Rattle.lt_model.specs.Value.{Value, is_number, are_fields, bool_value, field_list, is_value, bytes_value, fields_of, int_value, null_value, struct_value, text_value}
+use Rattle.lt_terms.specs.Log as log
+use Rattle.lt_terms.specs.declared.Format.TheVariants as format
+use Rattle.lt_terms.specs.Key.{int_part, text_part}
+use Rattle.lt_terms.specs.Log.{IsFrame, bit, body, field_bytes, is_change, is_content, is_header, is_log_part, kind_byte, magic, spelled}
+use Rattle.lt_terms.specs.Value.{Value, is_number, are_fields, bool_value, field_list, is_value, bytes_value, fields_of, int_value, null_value, struct_value, text_value}
 use Rattle.lt_codecs.specs.Codec.{OptionalLawful, bytes16, optional, bytes32, i64, u16, u32, u64, u8}
 use Rattle.lt_codecs.specs.LogCodec.{change_parts, log_value, part, settings, value}
 use Rattle.lt_codecs.proofs.ItemCodecs.{change_spells, high_spells, small_kind}
-use Rattle.lt_codecs.proofs.LogLaws.{IsShort, change_fits, few_fields, first, header_is, is_setting, second}
+use Rattle.lt_codecs.proofs.LogTests.{IsShort, change_fits, few_fields, header_is, is_setting}
+use Rattle.lt_codecs.proofs.ListFacts.{first, second}
 use Rattle.std.proofs.lemmas.Bool.{and_from as together}
 use Rattle.lt_codecs.proofs.ValueCodecs.{fields_bytes, fields_come, list_again}
 use Rattle.lt_codecs.proofs.ValueCodecs.{AreSettings as AreSpelled}

@@ -2,9 +2,9 @@
 use Rattle.std.specs.Prelude.{List, None, Option, Some, ℕ, ◌≡◌}
 use Rattle.std.specs.declared.result.Result.{Result}
 use Rattle.std.specs.declared.result.Result.TheVariants.{Err, Ok}
-use Rattle.lt_model.specs.declared.Format.TheVariants as format
-use Rattle.lt_model.specs.Value.{Value}
-use Rattle.lt_model.specs.Log.{Found, HasNoValue, IsFound, IsValueFront}
+use Rattle.lt_terms.specs.declared.Format.TheVariants as format
+use Rattle.lt_terms.specs.Value.{Value}
+use Rattle.lt_terms.specs.Log.{Found, HasNoValue, IsFound, IsValueFront}
 use Rattle.lt_records.specs.declared.refusal.ValueRefusal.{ValueRefusal}
 use Rattle.lt_records.specs.declared.refusal.ValueRefusal.TheVariants as refusals
 use Rattle.lt_records.specs.declared.reading.fault.Stop.{Stop}

@@ -1,7 +1,7 @@
 -- What the records stand for in the definitions. Headers of format 1 name no predecessor.
 use Rattle.std.specs.Prelude.{None}
-use Rattle.lt_model.specs.declared.Format.TheVariants as format
-use Rattle.lt_model.specs.Log as log
+use Rattle.lt_terms.specs.declared.Format.TheVariants as format
+use Rattle.lt_terms.specs.Log as log
 use Rattle.lt_codecs.specs.LogCodec.{ChangeParts}
 use Rattle.lt_core.specs.View.{view_parts, view_range, view_settings}
 use Rattle.lt_records.specs.declared.record.ChangeRecord.{ChangeRecord}

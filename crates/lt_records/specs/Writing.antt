@@ -1,9 +1,9 @@
 -- What the writers need and answer.
 use Rattle.std.specs.Prelude.{List, ℕ, IsTrue, length, ◌<◌, ◌≡◌, ◌^◌}
 use Rattle.std.specs.List.{All}
-use Rattle.lt_model.specs.declared.Format.TheVariants as format
-use Rattle.lt_model.specs.Value as model
-use Rattle.lt_model.specs.Log.{Item, body, is_log_part, max_body}
+use Rattle.lt_terms.specs.declared.Format.TheVariants as format
+use Rattle.lt_terms.specs.Value as model
+use Rattle.lt_terms.specs.Log.{Item, body, is_log_part, max_body}
 use Rattle.lt_core.specs.View.{view_part, view_value}
 use Rattle.lt_core.specs.declared.key.KeyPart.{KeyPart}
 use Rattle.lt_core.specs.declared.value.Value.{Value}

@@ -1,7 +1,7 @@
 //! Reading records and values off the front of bytes.
 
 ghost use Rattle.std.specs.Prelude.{◌≡◌, ◌-◌, drop, length, IfOk, IfErr, OnOk, OnErr};
-ghost use Rattle.lt_model.specs.Log.{IsValueFront};
+ghost use Rattle.lt_terms.specs.Log.{IsValueFront};
 ghost use Rattle.lt_core.specs.View.{view_value};
 ghost use Rattle.lt_records.specs.Reading.{NoOtherValue, ValueRefused};
 

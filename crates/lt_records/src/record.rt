@@ -3,7 +3,7 @@
 ghost use Rattle.std.specs.Prelude.{◌≡◌, IfOk};
 
 use lt_core::{KeyParts, ListItem, Memory, Op, Range, Settings, Ts};
-use lt_model::BadFrame;
+use lt_terms::BadFrame;
 
 /// A stream's number, and the keys that it may carry.
 #[derive(Debug, Drop)]

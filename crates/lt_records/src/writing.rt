@@ -1,7 +1,7 @@
 //! Writing records and values. What may not be written whole is spelled aside first, and then copied.
 
 ghost use Rattle.std.specs.Prelude.{◌≡◌, ◌++◌, IsTrue, OnErr, OnOk};
-ghost use Rattle.lt_model.specs.Log.{is_log_value, value_bytes};
+ghost use Rattle.lt_terms.specs.Log.{is_log_value, value_bytes};
 ghost use Rattle.lt_core.specs.View.{view_value};
 
 mod change;

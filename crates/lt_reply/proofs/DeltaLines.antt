@@ -2,7 +2,7 @@
 use Rattle.std.proofs.Common.{List, [], ap, append_assoc, length, sym, ℕ, ◌++◌, ◌∙◌, ◌∷◌, ◌≡◌}
 use Rattle.std.proofs.lemmas.List.{length-map}
 use Rattle.std.specs.Prelude.{codes, decimal, flat_map}
-use Rattle.lt_model.specs.Reply.{delta_line, deltas_told, ended, reply_text, text_line}
+use Rattle.lt_words.specs.Reply.{delta_line, deltas_told, ended, reply_text, text_line}
 use Rattle.lt_reply.specs.View.{view_delta, view_deltas}
 use Rattle.lt_reply.specs.declared.reply.DeltaLine.{DeltaLine}
 

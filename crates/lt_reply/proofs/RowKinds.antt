@@ -2,10 +2,10 @@
 use Rattle.std.proofs.Common.{List, None, Option, [], ap, append_assoc, length, length-append, refl, sym, ℕ, ◌+◌, ◌++◌, ◌∙◌, ◌∷◌, ◌≡◌, Some}
 use Rattle.std.specs.Prelude.{filter_map, map, option_map, slice_get}
 use Rattle.std.specs.List.{cons_option}
-use Rattle.lt_model.specs.Kind.{Kind}
-use Rattle.lt_model.specs.Query.{Query, full_columns, places, places_from}
-use Rattle.lt_model.specs.Reply.{picked_kinds}
-use Rattle.lt_model.specs.Schema.{KeyColumn, SchemaVersion, Table}
+use Rattle.lt_terms.specs.Kind.{Kind}
+use Rattle.lt_tables.specs.Query.{Query, full_columns, places, places_from}
+use Rattle.lt_words.specs.Reply.{picked_kinds}
+use Rattle.lt_tables.specs.Schema.{KeyColumn, SchemaVersion, Table}
 use Rattle.lt_reply.specs.Rows.{row_kinds}
 
 behind : {A : Type 0} (front : List A) (x : A) (xs : List A) → slice_get (front ++ x ∷ xs) (length front) ≡ Some x

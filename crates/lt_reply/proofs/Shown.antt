@@ -6,14 +6,14 @@ use Rattle.serde_json.specs.Data.{Data}
 use Rattle.serde_json.specs.Data as json
 use Rattle.serde_json.specs.View.{items_of}
 use Rattle.serde_json.specs.Written.{compact_text, has_float, items_have_float}
-use Rattle.lt_model.specs.declared.KeyKind.{KeyKind}
-use Rattle.lt_model.specs.declared.KeyKind.TheVariants as key_kind
-use Rattle.lt_model.specs.Kind.{FieldKinds, Kind, enumeration, field_kind, field_kinds_of, no_kinds, plain, structured}
-use Rattle.lt_model.specs.Query.{full_columns, key_part_kind}
-use Rattle.lt_model.specs.Reply.{name_of_number, shown, shown_fields, shown_row}
-use Rattle.lt_model.specs.Schema.{Column}
-use Rattle.lt_model.specs.SchemaText.{items_from, number_data, plain_data}
-use Rattle.lt_model.specs.Value.{Fields, Value, bool_value, bytes_value, int_value, null_value, struct_value, text_value, value_at}
+use Rattle.lt_terms.specs.declared.KeyKind.{KeyKind}
+use Rattle.lt_terms.specs.declared.KeyKind.TheVariants as key_kind
+use Rattle.lt_terms.specs.Kind.{FieldKinds, Kind, enumeration, field_kind, field_kinds_of, no_kinds, plain, structured}
+use Rattle.lt_tables.specs.Query.{full_columns, key_part_kind}
+use Rattle.lt_words.specs.Reply.{name_of_number, shown, shown_fields, shown_row}
+use Rattle.lt_tables.specs.Schema.{Column}
+use Rattle.lt_words.specs.SchemaText.{items_from, number_data, plain_data}
+use Rattle.lt_terms.specs.Value.{Fields, Value, bool_value, bytes_value, int_value, null_value, struct_value, text_value, value_at}
 use Rattle.lt_core.specs.View.{view_row, view_value}
 use Rattle.lt_core.specs.declared.value.Value.{Value as CodeValue}
 use Rattle.lt_schema.specs.View.{view_key}

@@ -2,10 +2,10 @@
 use Rattle.std.proofs.Common.{List, None, Option, Some, [], ap, ap₂, append_assoc, drop, length, refl, slice_index_or, sym, ℕ, ◌+◌, ◌++◌, ◌<◌, ◌∙◌, ◌∷◌, ◌≡◌}
 use Rattle.std.proofs.lemmas.List.{drop_more}
 use Rattle.std.specs.Prelude.{codes, decimal, flat_map}
-use Rattle.lt_model.specs.Reply as model
-use Rattle.lt_model.specs.declared.Progress.{Progress}
-use Rattle.lt_model.specs.declared.Progress.TheVariants as progress
-use Rattle.lt_model.specs.Reply.{ended, job_text, part_line, part_lines, reply_text, status_told, stream_line, text_line}
+use Rattle.lt_words.specs.Reply as model
+use Rattle.lt_terms.specs.declared.Progress.{Progress}
+use Rattle.lt_terms.specs.declared.Progress.TheVariants as progress
+use Rattle.lt_words.specs.Reply.{ended, job_text, part_line, part_lines, reply_text, status_told, stream_line, text_line}
 use Rattle.lt_reply.specs.View.{view_part, view_parts}
 use Rattle.lt_reply.specs.declared.reply.PartLine.{PartLine}
 

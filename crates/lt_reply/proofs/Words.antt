@@ -1,9 +1,9 @@
 -- The words of a refused schema.
 use Rattle.std.proofs.Common.{refl, ◌++◌, ◌∷◌, ◌≡◌}
 use Rattle.std.specs.Prelude.{codes}
-use Rattle.lt_model.specs.Reply.{Cause, cause_words, of_text, of_version, spaced}
-use Rattle.lt_model.specs.Schema.{bad_default, bad_name, bad_number, column_reused, default_given, duplicate_name, key_changed, kind_changed, table_mismatch, too_deep, too_many, version_not_next}
-use Rattle.lt_model.specs.SchemaText.{missing, not_json, unknown_member, wrong}
+use Rattle.lt_words.specs.Reply.{Cause, cause_words, of_text, of_version, spaced}
+use Rattle.lt_tables.specs.Schema.{bad_default, bad_name, bad_number, column_reused, default_given, duplicate_name, key_changed, kind_changed, table_mismatch, too_deep, too_many, version_not_next}
+use Rattle.lt_words.specs.SchemaText.{missing, not_json, unknown_member, wrong}
 
 -- a cause has a word at least
 pub cause_follows : (c : Cause) → spaced (codes "refused" ∷ codes "E6 BadSchema" ∷ cause_words c) ≡ codes "refused E6 BadSchema " ++ spaced (cause_words c)

@@ -3,12 +3,12 @@ use Rattle.std.specs.Prelude.{List, [], map, ℕ, ℤ, ◌∷◌}
 use Rattle.std.specs.Option.{option_map_or}
 use Rattle.serde_json.specs.Data.{Data}
 use Rattle.serde_json.specs.Data as json
-use Rattle.lt_model.specs.Kind.{Kind}
-use Rattle.lt_model.specs.Query.{full_columns}
-use Rattle.lt_model.specs.Reply.{name_of_number, shown}
-use Rattle.lt_model.specs.Schema.{Column, SchemaVersion}
-use Rattle.lt_model.specs.SchemaText.{number_data}
-use Rattle.lt_model.specs.Value.{Value}
+use Rattle.lt_terms.specs.Kind.{Kind}
+use Rattle.lt_tables.specs.Query.{full_columns}
+use Rattle.lt_words.specs.Reply.{name_of_number, shown}
+use Rattle.lt_tables.specs.Schema.{Column, SchemaVersion}
+use Rattle.lt_words.specs.SchemaText.{number_data}
+use Rattle.lt_terms.specs.Value.{Value}
 
 abbrev pub column_kinds : List Column → List Kind
 column_kinds cs = map (λ c. c.kind) cs

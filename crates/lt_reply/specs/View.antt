@@ -1,8 +1,8 @@
 -- What replies and refusals stand for in the definitions.
 use Rattle.std.specs.Prelude.{IsTrue, List, codes, false, is_some, map, ℕ, ◌∷◌, ◌≡◌}
 use Rattle.std.specs.Option.{option_map_or}
-use Rattle.lt_model.specs.Reply as model
-use Rattle.lt_model.specs.SchemaText.{not_json}
+use Rattle.lt_words.specs.Reply as model
+use Rattle.lt_words.specs.SchemaText.{not_json}
 use Rattle.lt_schema.specs.Faults.{view_refusal as view_schema_refusal}
 use Rattle.lt_schema.specs.declared.refusal.SchemaRefusal.{SchemaRefusal}
 use Rattle.lt_schema_json.specs.Reading.{view_fault}

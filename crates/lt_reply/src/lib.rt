@@ -14,14 +14,11 @@ mod text;
 
 pub use lt_core::{Blob, KeyBytes, Memory, Row, Text, Ts};
 pub use lt_fair::Unfair;
-pub use lt_model::{BadFrame, Progress};
 pub use lt_pump::Stop;
 pub use lt_schema::{SchemaRefusal, SchemaVersion};
 pub use lt_schema_json::JsonRefusal;
+pub use lt_terms::{BadFrame, Progress};
 pub use refusal::{Cause, Refusal};
 pub use reply::{DeltaLine, DeltaLines, PartLine, PartLines, Reply, StreamLine, StreamLines};
 pub use rows::{put_row, rows_text};
 pub use text::{refusal_text, reply_text};
-
-#[cfg(test)]
-mod tests;

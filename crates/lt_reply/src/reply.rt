@@ -3,8 +3,8 @@
 ghost use Rattle.std.specs.Prelude.{◌≡◌, IfOk};
 
 use lt_core::{KeyBytes, List, ListItem, Memory, Text, Ts};
-use lt_model::Progress;
 use lt_pump::Stop;
+use lt_terms::Progress;
 
 /// What is told of a partition. Its number is its place in the list.
 #[derive(Debug, Drop)]

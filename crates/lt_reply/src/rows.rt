@@ -4,8 +4,8 @@ ghost use Rattle.std.specs.Prelude.{◌≡◌, ◌++◌, flat_map, length, map, 
 ghost use Rattle.serde_json.specs.Data.{array};
 ghost use Rattle.serde_json.specs.View.{view};
 ghost use Rattle.serde_json.specs.Written.{compact_text};
-ghost use Rattle.lt_model.specs.Reply.{reply_text as reply_line, row_text, scan_done, shown_row};
-ghost use Rattle.lt_model.specs.SchemaText.{plain_data};
+ghost use Rattle.lt_words.specs.Reply.{reply_text as reply_line, row_text, scan_done, shown_row};
+ghost use Rattle.lt_words.specs.SchemaText.{plain_data};
 ghost use Rattle.lt_core.specs.View.{view_row};
 ghost use Rattle.lt_schema.specs.View.{view_columns, view_version};
 ghost use Rattle.lt_reply.specs.Rows.{column_kinds, row_kinds, shown_each};
@@ -23,7 +23,8 @@ use std::alloc::Global;
 
 /// The lines of rows, and the reply that counts them.
 pub fn rows_text(alloc: Global, version: &SchemaVersion, rows: &[Row]) -> Result<Blob, Memory>
-    ensures { IfOk result (λ text. text ≡ flat_map (row_text (row_kinds (view_version version.now))) (map view_row rows.now) ++ reply_line (scan_done (length rows.now))) }
+    ensures { IfOk result (λ text. text ≡ flat_map (row_text (row_kinds (view_version version.now)))
+        (map view_row rows.now) ++ reply_line (scan_done (length rows.now))) }
 {
     let mut text = List::new(alloc);
     for row in rows {
@@ -37,7 +38,7 @@ pub fn rows_text(alloc: Global, version: &SchemaVersion, rows: &[Row]) -> Result
 }
 
 /// Appends a row's line: each value as its column's kind shows it. After an `Err` some first bytes of it may stand.
-#[tactic(auto, unfolding(lt_model::specs::Reply::row_text))]
+#[tactic(auto, unfolding(lt_words::specs::Reply::row_text))]
 pub fn put_row(
     alloc: Global,
     text: &mut Blob,
@@ -54,7 +55,8 @@ pub fn put_row(
 
 /// A row as a JSON array: the parts of the key, and then the columns.
 fn row_json(alloc: Global, version: &SchemaVersion, row: &Row) -> Result<String, Memory>
-    ensures { IfOk result (λ s. string_bytes s ≡ compact_text (array (shown_row (row_kinds (view_version version.now)) (view_row row.now)))) }
+    ensures { IfOk result (λ s. string_bytes s ≡ compact_text
+        (array (shown_row (row_kinds (view_version version.now)) (view_row row.now)))) }
 {
     let values = row.as_slice();
     let (parts, values) = values.split_at(values.len().min(version.key.len()));
@@ -81,7 +83,8 @@ fn put_values(
     columns: &Columns,
     values: &[Value],
 ) -> Result<(), Memory>
-    ensures { OnOk result (map view items.new.items ≡ map view items.old.items ++ shown_each (column_kinds (view_columns columns.now)) (view_row values.now)) }
+    ensures { OnOk result (map view items.new.items ≡ map view items.old.items ++ shown_each
+        (column_kinds (view_columns columns.now)) (view_row values.now)) }
 {
     let mut rest = values;
     for column in columns.as_slice() {

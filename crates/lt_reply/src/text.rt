@@ -1,7 +1,7 @@
 //! The lines of replies and refusals.
 
 ghost use Rattle.std.specs.Prelude.{◌≡◌, string_bytes, IfOk};
-ghost use Rattle.lt_model.specs.Reply.{ended, refusal_text as refusal_line, reply_text as reply_line};
+ghost use Rattle.lt_words.specs.Reply.{ended, refusal_text as refusal_line, reply_text as reply_line};
 ghost use Rattle.lt_reply.specs.View.{IsSpoken, view_refusal, view_reply};
 
 mod cause;
@@ -26,7 +26,7 @@ pub fn reply_text(alloc: Global, reply: &Reply) -> Result<Blob, Memory>
 }
 
 /// The line of a refusal.
-#[tactic(auto, unfolding(lt_model::specs::Reply::refusal_text))]
+#[tactic(auto, unfolding(lt_words::specs::Reply::refusal_text))]
 pub fn refusal_text(alloc: Global, refusal: &Refusal) -> Result<Blob, Memory>
     requires { IsSpoken refusal.now }
     ensures { IfOk result (λ text. text ≡ refusal_line (view_refusal refusal.now)) }

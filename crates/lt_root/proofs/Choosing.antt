@@ -2,10 +2,10 @@
 use Rattle.std.proofs.Common.{List, None, Option, Some, ap, arith, false, get_or, inl, inr, length, refl, subst, sym, zero-add, ℕ, ◌-◌, ◌*◌, ◌<◌, ◌∙◌, ◌≡◌}
 use Rattle.std.specs.Prelude.{IfSome, IsTrue}
 use Rattle.std.proofs.lemmas.Bool.{both_ways}
-use Rattle.lt_model.specs.declared.Root.{Root}
-use Rattle.lt_model.specs.Disk.{Reads, bytes_at}
-use Rattle.lt_model.specs.Run.{IsDamagedSlot}
-use Rattle.lt_model.specs.Store.{CountsAsRoot, IsSlot, is_open}
+use Rattle.lt_terms.specs.declared.Root.{Root}
+use Rattle.lt_world.specs.Disk.{Reads, bytes_at}
+use Rattle.lt_world.specs.Slots.{IsDamagedSlot}
+use Rattle.lt_world.specs.Slots.{CountsAsRoot, IsSlot, is_open}
 use Rattle.lt_root.specs.declared.refusal.RootRefusal.{RootRefusal}
 use Rattle.lt_root.specs.Roots.{AreSlots, IsHurt, RefusesRoot}
 use Rattle.lt_disk.proofs.Written.{byte_at}

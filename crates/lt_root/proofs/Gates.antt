@@ -2,8 +2,8 @@
 use Rattle.std.proofs.Common.{List, None, Option, Some, add-zero, ap, arith, get_or, inr, length, subst, sym, ℕ, ◌∙◌, ◌≡◌}
 use Rattle.std.specs.Prelude.{IfSome, IsTrue}
 use Rattle.std.proofs.lemmas.Bool.{eq-eqb}
-use Rattle.lt_model.specs.Disk.{DiskState, Reads, StaysOutside}
-use Rattle.lt_model.specs.Store.{gate_of, is_open, open_gate}
+use Rattle.lt_world.specs.Disk.{DiskState, Reads, StaysOutside}
+use Rattle.lt_world.specs.Slots.{gate_of, is_open, open_gate}
 use Rattle.lt_disk.proofs.Written.{byte_at}
 use Rattle.lt_root.specs.Roots.{gate_place}
 use Rattle.lt_root.specs.Steps.{IsClosing}

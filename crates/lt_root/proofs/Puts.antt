@@ -1,8 +1,8 @@
 -- What a write that is followed by a sync leaves of a disk.
 use Rattle.std.proofs.Common.{List, None, Option, Some, length, subst, sym, ℕ, ◌≡◌, ◌↔◌}
 use Rattle.std.specs.Prelude.{IfSome, IsSome}
-use Rattle.lt_model.specs.Disk.{DiskState, Elapses, Follows, LeftOnly, StaysOutside, Torn, with_bytes}
-use Rattle.lt_model.specs.Outside.{StaysTold}
+use Rattle.lt_world.specs.Disk.{DiskState, Elapses, Follows, LeftOnly, StaysOutside, Torn, with_bytes}
+use Rattle.lt_world.specs.Object.{StaysTold}
 use Rattle.lt_disk.specs.Within.{IsWithin, ReadsWithin}
 use Rattle.lt_disk.proofs.Moments.{Device, begins, goes_on, holds_now, within_now}
 use Rattle.lt_disk.proofs.Written.{stays_torn, stays_written}

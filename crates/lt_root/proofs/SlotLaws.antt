@@ -3,12 +3,12 @@ use Rattle.std.proofs.Common.{List, ap, ap₂, arith, drop, get_or, inl, inr, le
 use Rattle.std.specs.Prelude.{IsTrue, nat_le, nat_lt, ◌&&◌, ◌==◌}
 use Rattle.std.specs.Int.{from_be_bytes, to_be_bytes, w64}
 use Rattle.std.proofs.lemmas.Bool.{and_from, and_parts, eq-eqb, le-leb, lt-ltb, ltb-true}
-use Rattle.lt_model.specs.declared.Extent.{Extent}
-use Rattle.lt_model.specs.declared.Root.{Root}
-use Rattle.lt_model.specs.Log.{u64}
-use Rattle.lt_model.specs.Disk.{bytes_at, zeros}
-use Rattle.lt_model.specs.Run.{IsDamagedSlot}
-use Rattle.lt_model.specs.Store.{CountsAsRoot, HasNoStore, IsSlot, gate_of, is_open, is_root, open_gate, slot_place}
+use Rattle.lt_terms.specs.declared.Extent.{Extent}
+use Rattle.lt_terms.specs.declared.Root.{Root}
+use Rattle.lt_terms.specs.Log.{u64}
+use Rattle.lt_world.specs.Disk.{bytes_at, zeros}
+use Rattle.lt_world.specs.Slots.{IsDamagedSlot}
+use Rattle.lt_world.specs.Slots.{CountsAsRoot, HasNoStore, IsSlot, gate_of, is_open, is_root, open_gate, slot_place}
 use Rattle.lt_codecs.proofs.Codecs.{wide64}
 use Rattle.lt_disk.proofs.Written.{bytes_within, same_bytes}
 use Rattle.lt_root.specs.declared.refusal.RootRefusal.{RootRefusal}

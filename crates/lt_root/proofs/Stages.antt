@@ -1,10 +1,11 @@
 -- How a commit goes on: after each step that succeeds a crash leaves one image, and of that the next step's tears are told.
 use Rattle.std.proofs.Common.{List, Some, [], ap, ap₂, arith, false, inl, inr, is_some, length, refl, subst, sym, ℕ, ◌+◌, ◌-◌, ◌^◌, ◌<◌, ◌≤◌, ◌∙◌, ◌∷◌, ◌≡◌, ◌⊎◌}
 use Rattle.std.specs.Prelude.{IfSome, IsTrue}
-use Rattle.lt_model.specs.declared.Root.{Root}
-use Rattle.lt_model.specs.Disk.{Elapses, LeftOnly, Only, StaysOutside, bytes_at, with_bytes}
-use Rattle.lt_model.specs.Outside.{HasRoot, LeavesNow}
-use Rattle.lt_model.specs.Store.{is_open, is_root, slot_place}
+use Rattle.lt_terms.specs.declared.Root.{Root}
+use Rattle.lt_world.specs.Disk.{Elapses, LeftOnly, Only, StaysOutside, bytes_at, with_bytes}
+use Rattle.lt_world.specs.Slots.{HasRoot}
+use Rattle.lt_world.specs.Disk.{LeavesNow}
+use Rattle.lt_world.specs.Slots.{is_open, is_root, slot_place}
 use Rattle.lt_disk.specs.Within.{IsStable, IsWithin, ReadsWithin}
 use Rattle.lt_disk.proofs.Moments.{Changes, Device, Stands, changed, holds_now, joined, stands, still, told_at, told_outside, weaker}
 use Rattle.lt_disk.proofs.Written.{stays_itself, stays_on, stays_wider, stays_written}

@@ -2,10 +2,10 @@
 use Rattle.std.proofs.Common.{List, [], ap, arith, false, get_or, inl, inr, length, refl, subst, sym, ℕ, ◌+◌, ◌-◌, ◌++◌, ◌<◌, ◌∙◌, ◌∷◌, ◌≡◌, ◌≤◌, ◌⊎◌}
 use Rattle.std.specs.Prelude.{IsTrue}
 use Rattle.std.proofs.lemmas.Bool.{cases_Bool, cases_eq, eq-eqb}
-use Rattle.lt_model.specs.declared.Root.{Root}
-use Rattle.lt_model.specs.Disk.{StaysOutside, bytes_at, with_bytes, zeros}
-use Rattle.lt_model.specs.Outside.{HasRoot}
-use Rattle.lt_model.specs.Store.{IsSlot, gate_of, is_open, is_root, open_gate, slot_place}
+use Rattle.lt_terms.specs.declared.Root.{Root}
+use Rattle.lt_world.specs.Disk.{StaysOutside, bytes_at, with_bytes, zeros}
+use Rattle.lt_world.specs.Slots.{HasRoot}
+use Rattle.lt_world.specs.Slots.{IsSlot, gate_of, is_open, is_root, open_gate, slot_place}
 use Rattle.lt_disk.proofs.Written.{bytes_written, same_bytes, written_inside, written_length}
 use Rattle.lt_root.specs.Roots.{body_of, gate_place}
 use Rattle.lt_root.proofs.Choosing.{counts_alone}

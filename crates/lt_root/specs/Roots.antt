@@ -2,10 +2,10 @@
 use Rattle.std.specs.Prelude.{IsTrue, List, ⊤, ℕ, ◌++◌, ◌+◌, ◌-◌, ◌∷◌, ◌≡◌}
 use Rattle.std.specs.declared.result.Result.{Result}
 use Rattle.std.specs.declared.result.Result.TheVariants.{Err, Ok}
-use Rattle.lt_model.specs.declared.Root.{Root}
-use Rattle.lt_model.specs.Disk.{zeros}
-use Rattle.lt_model.specs.Store.{HasNoStore, IsSlot, is_open, open_gate, slot_body, slot_place}
-use Rattle.lt_model.specs.Run.{IsDamagedSlot}
+use Rattle.lt_terms.specs.declared.Root.{Root}
+use Rattle.lt_world.specs.Disk.{zeros}
+use Rattle.lt_world.specs.Slots.{HasNoStore, IsSlot, is_open, open_gate, slot_body, slot_place}
+use Rattle.lt_world.specs.Slots.{IsDamagedSlot}
 use Rattle.lt_root.specs.declared.refusal.RootRefusal.{RootRefusal}
 use Rattle.lt_root.specs.declared.refusal.RootRefusal.TheVariants as refusals
 

@@ -1,9 +1,9 @@
 -- What a commit and its steps leave of a disk.
 use Rattle.std.specs.Prelude.{IfSome, IsTrue, List, ℕ, ◌≡◌, ◌⊎◌}
-use Rattle.lt_model.specs.declared.Root.{Root}
-use Rattle.lt_model.specs.Disk.{DiskState, StaysOutside}
-use Rattle.lt_model.specs.Outside.{HasRoot}
-use Rattle.lt_model.specs.Store.{is_open, slot_place}
+use Rattle.lt_terms.specs.declared.Root.{Root}
+use Rattle.lt_world.specs.Disk.{DiskState, StaysOutside}
+use Rattle.lt_world.specs.Slots.{HasRoot}
+use Rattle.lt_world.specs.Slots.{is_open, slot_place}
 use Rattle.lt_root.specs.Roots.{gate_place}
 
 -- an image that holds a new root, and that outside its slot is what read before

@@ -2,9 +2,10 @@
 //! written. It makes at most eight calls of the disk.
 
 ghost use Rattle.std.specs.Prelude.{◌≡◌, ◌+◌, ◌-◌, ◌<◌, ◌≤◌, ◌^◌, ◌⊎◌, IfSome, OnOk, OnErr};
-ghost use Rattle.lt_model.specs.Disk.{CountsOne, HasCause, LeftOnly, Rose, StaysOutside};
-ghost use Rattle.lt_model.specs.Outside.{HasRoot, LeavesNow};
-ghost use Rattle.lt_model.specs.Store.{slot_place};
+ghost use Rattle.lt_world.specs.Disk.{CountsOne, HasCause, LeftOnly, Rose, StaysOutside};
+ghost use Rattle.lt_world.specs.Slots.{HasRoot};
+ghost use Rattle.lt_world.specs.Disk.{LeavesNow};
+ghost use Rattle.lt_world.specs.Slots.{slot_place};
 ghost use Rattle.lt_root.specs.Roots.{next_root};
 ghost use Rattle.lt_root.specs.Steps.{HasCommitted};
 ghost use Rattle.lt_disk.specs.Within.{IsStable, IsWithin, ReadsWithin};
@@ -12,7 +13,7 @@ ghost use Rattle.lt_disk.specs.Within.{IsStable, IsWithin, ReadsWithin};
 use crate::slot::{OPEN, body};
 use crate::writing::{close_gate, place_of_gate, place_of_slot, put};
 use lt_disk::{Disk, DiskFault};
-use lt_model::Root;
+use lt_terms::Root;
 
 /// Makes the next root count, for the manifest at this place. What was written before is made stable first.
 pub fn commit<D: Disk>(
@@ -28,19 +29,27 @@ pub fn commit<D: Disk>(
 
     // Where a manifest may stand at this place, and each image has the root as the call begins: at each moment of it each has the old or the new one, the new one with
     // all else as it read; after Ok each has the new one, and after a fault that was no write fault the old one.
-    ensures any_moment { IfSome (D.state disk.old).told (λ seen. 1024 ≤ place → 0 < length → LeavesNow (D.state disk.old) (HasRoot root.old)
-        → LeftOnly (D.state disk.old) (D.state disk.new) (λ image. HasRoot root.old image ⊎ HasCommitted (next_root root.old place length) seen image)) }
-    ensures acknowledged { IfSome (D.state disk.old).told (λ seen. 1024 ≤ place → 0 < length → LeavesNow (D.state disk.old) (HasRoot root.old)
+    ensures any_moment { IfSome (D.state disk.old).told (λ seen. 1024 ≤ place → 0 < length
+        → LeavesNow (D.state disk.old) (HasRoot root.old)
+        → LeftOnly (D.state disk.old) (D.state disk.new) (λ image. HasRoot root.old image
+        ⊎ HasCommitted (next_root root.old place length) seen image)) }
+    ensures acknowledged { IfSome (D.state disk.old).told (λ seen. 1024 ≤ place → 0 < length
+        → LeavesNow (D.state disk.old) (HasRoot root.old)
         → OnOk result (LeavesNow (D.state disk.new) (HasRoot (next_root root.old place length)))) }
-    ensures unwritten { IfSome (D.state disk.old).told (λ seen. 1024 ≤ place → 0 < length → LeavesNow (D.state disk.old) (HasRoot root.old)
-        → OnErr result (Rose (D.state disk.old).write_faults (D.state disk.new).write_faults ⊎ LeavesNow (D.state disk.new) (HasRoot root.old))) }
+    ensures unwritten { IfSome (D.state disk.old).told (λ seen. 1024 ≤ place → 0 < length
+        → LeavesNow (D.state disk.old) (HasRoot root.old)
+        → OnErr result (Rose (D.state disk.old).write_faults (D.state disk.new).write_faults
+        ⊎ LeavesNow (D.state disk.new) (HasRoot root.old))) }
     // After any fault the old one counts in each image, or each has all that read before but in the other slot.
-    ensures torn { IfSome (D.state disk.old).told (λ seen. 1024 ≤ place → 0 < length → LeavesNow (D.state disk.old) (HasRoot root.old)
-        → OnErr result (LeavesNow (D.state disk.new) (HasRoot root.old) ⊎ LeavesNow (D.state disk.new) (StaysOutside (slot_place (1 - root.old.slot)) 512 seen))) }
+    ensures torn { IfSome (D.state disk.old).told (λ seen. 1024 ≤ place → 0 < length
+        → LeavesNow (D.state disk.old) (HasRoot root.old)
+        → OnErr result (LeavesNow (D.state disk.new) (HasRoot root.old)
+        ⊎ LeavesNow (D.state disk.new) (StaysOutside (slot_place (1 - root.old.slot)) 512 seen))) }
 
     // Nothing but the other slot changes, in what reads and in each image, and after Ok a crash leaves what reads.
     ensures others { ReadsWithin (slot_place (1 - root.old.slot)) 512 (D.state disk.old) (D.state disk.new) }
-    ensures images { LeftOnly (D.state disk.old) (D.state disk.new) (IsWithin (D.state disk.old) (slot_place (1 - root.old.slot)) 512) }
+    ensures images { LeftOnly (D.state disk.old) (D.state disk.new)
+        (IsWithin (D.state disk.old) (slot_place (1 - root.old.slot)) 512) }
     ensures stable { OnOk result (IsStable (D.state disk.new)) }
 
     ensures cause { HasCause (D.state disk.old).faults (D.state disk.new).faults result }

@@ -1,21 +1,24 @@
 //! The first root. Making it takes four calls of the disk.
 
 ghost use Rattle.std.specs.Prelude.{◌≡◌, ◌++◌, ◌<◌, ◌≤◌, IfOk, IfSome, OnOk, Some};
-ghost use Rattle.lt_model.specs.Disk.{HasCause, LeftOnly, with_bytes, zeros};
-ghost use Rattle.lt_model.specs.Outside.{HasRoot, LeavesNow};
+ghost use Rattle.lt_world.specs.Disk.{HasCause, LeftOnly, with_bytes, zeros};
+ghost use Rattle.lt_world.specs.Slots.{HasRoot};
+ghost use Rattle.lt_world.specs.Disk.{LeavesNow};
 ghost use Rattle.lt_disk.specs.Within.{IsStable, IsWithin, ReadsWithin};
 ghost use Rattle.lt_root.specs.Roots.{body_of, first_root, first_slots};
 
 use crate::slot::{BODY, OPEN, SLOT, body};
 use crate::writing::{place_of_gate, put};
 use lt_disk::{Disk, DiskFault};
-use lt_model::Root;
+use lt_terms::Root;
 
 /// Makes the first root, for the manifest at this place. A crash within the call, or a fault, may leave any bytes as the slots.
 pub fn format<D: Disk>(disk: &mut D, place: u64, length: u64) -> Result<Root, DiskFault>
     ensures ok { IfOk result (λ r. r ≡ first_root place length) }
-    ensures bytes { OnOk result (IfSome (D.state disk.old).told (λ image. (D.state disk.new).told ≡ Some (with_bytes image 0 (first_slots place length)))) }
-    ensures made { OnOk result (IfSome (D.state disk.old).told (λ seen. 1024 ≤ place → 0 < length → LeavesNow (D.state disk.new) (HasRoot (first_root place length)))) }
+    ensures bytes { OnOk result (IfSome (D.state disk.old).told
+        (λ image. (D.state disk.new).told ≡ Some (with_bytes image 0 (first_slots place length)))) }
+    ensures made { OnOk result (IfSome (D.state disk.old).told (λ seen. 1024 ≤ place → 0 < length
+        → LeavesNow (D.state disk.new) (HasRoot (first_root place length)))) }
 
     // Nothing but the slots changes, in what reads and in each image, and after Ok a crash leaves what reads.
     ensures others { ReadsWithin 0 1024 (D.state disk.old) (D.state disk.new) }

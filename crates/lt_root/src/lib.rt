@@ -15,8 +15,5 @@ mod writing;
 pub use committing::commit;
 pub use formatting::format;
 pub use loading::load;
-pub use lt_model::Root;
+pub use lt_terms::Root;
 pub use refusal::RootRefusal;
-
-#[cfg(test)]
-mod tests;

@@ -1,15 +1,15 @@
 //! Which root counts, read in one call of the disk.
 
 ghost use Rattle.std.specs.Prelude.{◌≡◌, ◌<◌, ◌≤◌, IsTrue, List, Ok, ℕ, IfOk, IfErr, IfSome, length};
-ghost use Rattle.lt_model.specs.Disk.{CountsOne, HasCause, LeftOnly};
-ghost use Rattle.lt_model.specs.Outside.{StaysTold};
-ghost use Rattle.lt_model.specs.Store.{CountsAsRoot, is_root};
+ghost use Rattle.lt_world.specs.Disk.{CountsOne, HasCause, LeftOnly};
+ghost use Rattle.lt_world.specs.Object.{StaysTold};
+ghost use Rattle.lt_world.specs.Slots.{CountsAsRoot, is_root};
 ghost use Rattle.lt_root.specs.Roots.{AreSlots, RefusesRoot, of_disk};
 
 use crate::refusal::RootRefusal;
 use crate::slot::{SLOT, read_slot};
 use lt_disk::Disk;
-use lt_model::Root;
+use lt_terms::Root;
 use std::cmp::Ordering;
 
 /// The root that counts. `NoStore` where no gate is open; `Damaged` where an open slot is not of the format, or both are of one

@@ -2,13 +2,13 @@
 
 ghost use Rattle.std.specs.Prelude.{◌≡◌, ◌↔◌, ◌+◌, ◌<◌, ◌≤◌, IsTrue, IfOk, IfErr, IfSome, IfNone, drop, false, length, take};
 ghost use Rattle.std.specs.Int.{from_be_bytes, w64};
-ghost use Rattle.lt_model.specs.declared.Root.{Root};
-ghost use Rattle.lt_model.specs.Disk.{zeros};
-ghost use Rattle.lt_model.specs.Store.{IsSlot, is_open, is_root};
+ghost use Rattle.lt_terms.specs.declared.Root.{Root};
+ghost use Rattle.lt_world.specs.Disk.{zeros};
+ghost use Rattle.lt_world.specs.Slots.{IsSlot, is_open, is_root};
 ghost use Rattle.lt_root.specs.Roots.{body_of, IsHurt};
 
 use crate::refusal::RootRefusal;
-use lt_model::Root;
+use lt_terms::Root;
 
 /// How many bytes a slot has.
 pub const SLOT: usize = 512;
@@ -72,8 +72,10 @@ pub fn read_slot(slots: &[u8], slot: u8) -> Result<Option<Root>, RootRefusal>
 /// The root that these bytes spell. It is read, spelled again, and compared.
 fn spelled(bytes: &[u8], slot: u8) -> Option<Root>
     requires { length bytes.now ≡ 511 }
-    ensures some { IfSome result (λ r. (bytes.now ≡ body_of r) × IsTrue (is_root r.generation r.place r.length) × (r.slot ≡ slot)) }
-    ensures none { IfNone result ((r : Root) → IsTrue (is_root r.generation r.place r.length) → bytes.now ≡ body_of r → ⊥) }
+    ensures some { IfSome result (λ r. (bytes.now ≡ body_of r) × IsTrue (is_root r.generation r.place r.length)
+        × (r.slot ≡ slot)) }
+    ensures none { IfNone result ((r : Root) → IsTrue (is_root r.generation r.place r.length)
+        → bytes.now ≡ body_of r → ⊥) }
 {
     let root = read_root(bytes, slot);
     if is_lawful(&root) && is_spelled(&root, bytes) {
@@ -87,7 +89,8 @@ fn read_root(bytes: &[u8], slot: u8) -> Root
     requires { length bytes.now ≡ 511 }
     ensures slot { result.slot ≡ slot }
     // What a root spells gives that root again.
-    ensures again { (r : Root) → IsTrue (is_root r.generation r.place r.length) → bytes.now ≡ body_of r → result ≡ record r { slot = slot } }
+    ensures again { (r : Root) → IsTrue (is_root r.generation r.place r.length) → bytes.now ≡ body_of r
+        → result ≡ record r { slot = slot } }
 {
     Root {
         generation: number_at(bytes, 6),

@@ -1,8 +1,8 @@
 //! The steps of which a commit is made. Each makes at most three calls of the disk.
 
 ghost use Rattle.std.specs.Prelude.{◌≡◌, ◌*◌, ◌<◌, ◌≤◌, Some, IfSome, OnOk, false, length};
-ghost use Rattle.lt_model.specs.Disk.{CountsOne, HasCause, LeftOnly, with_bytes};
-ghost use Rattle.lt_model.specs.Store.{is_open, slot_place};
+ghost use Rattle.lt_world.specs.Disk.{CountsOne, HasCause, LeftOnly, with_bytes};
+ghost use Rattle.lt_world.specs.Slots.{is_open, slot_place};
 ghost use Rattle.lt_root.specs.Roots.{gate_place};
 ghost use Rattle.lt_disk.specs.Within.{IsStable, IsWithin, ReadsWithin};
 ghost use Rattle.lt_root.specs.Steps.{IsClosing};
@@ -29,9 +29,11 @@ pub fn place_of_gate(slot: u8) -> u64
 /// Writes the bytes from a place on, and syncs.
 pub fn put<D: Disk>(disk: &mut D, place: u64, bytes: &[u8]) -> Result<(), DiskFault>
     requires { 0 < length bytes.now }
-    ensures images { LeftOnly (D.state disk.old) (D.state disk.new) (IsWithin (D.state disk.old) place (length bytes.now)) }
+    ensures images { LeftOnly (D.state disk.old) (D.state disk.new)
+        (IsWithin (D.state disk.old) place (length bytes.now)) }
     ensures reads { ReadsWithin place (length bytes.now) (D.state disk.old) (D.state disk.new) }
-    ensures bytes { OnOk result (IfSome (D.state disk.old).told (λ a. (D.state disk.new).told ≡ Some (with_bytes a place bytes.now))) }
+    ensures bytes { OnOk result (IfSome (D.state disk.old).told
+        (λ a. (D.state disk.new).told ≡ Some (with_bytes a place bytes.now))) }
     ensures stable { OnOk result (IsStable (D.state disk.new)) }
     ensures cause { HasCause (D.state disk.old).faults (D.state disk.new).faults result }
     ensures written { HasCause (D.state disk.old).write_faults (D.state disk.new).write_faults result }

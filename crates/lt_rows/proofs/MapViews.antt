@@ -9,9 +9,9 @@ use Rattle.std.specs.Ordering.{nat_cmp}
 use Rattle.lt_core.specs.declared.value.Value.{Value as CodeValue}
 use Rattle.std.proofs.lemmas.List.{map-append, reverse-append}
 use Rattle.lt_core.specs.View.{view_setting, view_settings, view_value}
-use Rattle.lt_model.specs.Value.{Value}
-use Rattle.lt_model.specs.Key.{bytes_cmp}
-use Rattle.lt_model.specs.Layout.{setting}
+use Rattle.lt_terms.specs.Value.{Value}
+use Rattle.lt_terms.specs.Key.{bytes_cmp}
+use Rattle.lt_terms.specs.Layout.{setting}
 use Rattle.lt_rows.specs.declared.present.Present.{Present as CodePresent}
 use Rattle.lt_rows.specs.Present.{Present, Rows, Set, laid_over, put_setting, updated}
 use Rattle.lt_rows.specs.View.{view_present, view_rows, view_set}

@@ -8,18 +8,18 @@ use Rattle.std.specs.Option.{option_map_or}
 use Rattle.std.proofs.lemmas.Bool.{and_parts}
 use Rattle.std.proofs.lemmas.Cmp.{nat_list_cmp_total}
 use Rattle.std.proofs.lemmas.Map.Lookups.{exact_bytes}
-use Rattle.lt_model.specs.declared.Op.{Op}
-use Rattle.lt_model.specs.declared.Op.TheVariants as ops
-use Rattle.lt_model.specs.Value.{Value}
-use Rattle.lt_model.specs.Fair.{changes_to}
-use Rattle.lt_model.specs.Key.{KeyPart, bytes_cmp, same_key}
-use Rattle.lt_model.specs.Laws.{AreKeyed, IsKeyed}
-use Rattle.lt_model.specs.Layout.{setting}
-use Rattle.lt_model.specs.Log.{Change, change_key}
-use Rattle.lt_model.specs.Row.{Row, after_change, changes_up_to, row_by}
-use Rattle.lt_model.specs.Schema.{Catalogue}
-use Rattle.lt_laws.proofs.PointLaws.{same, swapped}
-use Rattle.lt_laws.proofs.SnapshotLaws.{IsNamed, Named, all_named, table_of_key}
+use Rattle.lt_terms.specs.declared.Op.{Op}
+use Rattle.lt_terms.specs.declared.Op.TheVariants as ops
+use Rattle.lt_terms.specs.Value.{Value}
+use Rattle.lt_tables.specs.Fair.{changes_to}
+use Rattle.lt_terms.specs.Key.{KeyPart, bytes_cmp, same_key}
+use Rattle.lt_tables.specs.Row.{AreKeyed, IsKeyed}
+use Rattle.lt_terms.specs.Layout.{setting}
+use Rattle.lt_terms.specs.Log.{Change, change_key}
+use Rattle.lt_tables.specs.Row.{Row, after_change, changes_up_to, row_by}
+use Rattle.lt_tables.specs.Schema.{Catalogue}
+use Rattle.lt_lemmas.proofs.PointLaws.{same, swapped}
+use Rattle.lt_lemmas.proofs.SnapshotLaws.{IsNamed, Named, all_named, table_of_key}
 use Rattle.lt_rows.specs.Present.{Present, Rows, counts, laid_over, present_by, rows_by, with_change, with_counted}
 use Rattle.lt_rows.proofs.Entries.{IsOrder, Rises, at_itself, found_all, insert_all, insert_rises, lookup_insert, lookup_remove, lookup_set, remove_all, remove_rises, set_all, set_apart, set_rises}
 use Rattle.lt_rows.proofs.SetLaws.{laid_setting, over_same}

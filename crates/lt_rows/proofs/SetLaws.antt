@@ -9,8 +9,8 @@ use Rattle.std.proofs.lemmas.Cmp.{nat_cmp_total}
 use Rattle.std.proofs.lemmas.List.{reverse-append}
 use Rattle.std.proofs.lemmas.List.Sums.{fold-append}
 use Rattle.std.proofs.lemmas.Map.Lookups.{exact_unsigned}
-use Rattle.lt_model.specs.Value.{Value}
-use Rattle.lt_model.specs.Layout.{setting}
+use Rattle.lt_terms.specs.Value.{Value}
+use Rattle.lt_terms.specs.Layout.{setting}
 use Rattle.lt_rows.specs.Present.{Set, laid_over, put_setting}
 use Rattle.lt_rows.proofs.Entries.{IsOrder, lookup_insert}
 

@@ -5,16 +5,16 @@ use Rattle.std.specs.BTreeMap.{is_at}
 use Rattle.std.specs.List.{AllByRecursion, cons_option}
 use Rattle.std.specs.Option.{option_map_or}
 use Rattle.std.specs.Ordering.{is_lt}
-use Rattle.lt_model.specs.Value.{Value, null_value}
-use Rattle.lt_model.specs.Conversion.{conv}
-use Rattle.lt_model.specs.Key.{bytes_cmp, part_value, same_key}
-use Rattle.lt_model.specs.Laws.{AreKeyed}
-use Rattle.lt_model.specs.Layout.{setting}
-use Rattle.lt_model.specs.Log.{Change}
-use Rattle.lt_model.specs.Row.{Entry, Row, entry_of, keys_of, read_row, row_at, snapshot}
-use Rattle.lt_model.specs.Schema.{Catalogue, Column, Table, column_fallback, fallback, fallback_in, table_numbered}
-use Rattle.lt_laws.proofs.RowLemmas.{reads_in_order}
-use Rattle.lt_laws.proofs.SnapshotLaws.{AreOver, AreRising, IsNamed, Named, Needs, all_named, changed_or_found, entry_at, has_key, keys_all, keys_rising, named_once, no_row, or_left, or_right, same_map}
+use Rattle.lt_terms.specs.Value.{Value, null_value}
+use Rattle.lt_terms.specs.Conversion.{conv}
+use Rattle.lt_terms.specs.Key.{bytes_cmp, part_value, same_key}
+use Rattle.lt_tables.specs.Row.{AreKeyed}
+use Rattle.lt_terms.specs.Layout.{setting}
+use Rattle.lt_terms.specs.Log.{Change}
+use Rattle.lt_tables.specs.Row.{Entry, Row, entry_of, keys_of, read_row, row_at, snapshot}
+use Rattle.lt_tables.specs.Schema.{Catalogue, Column, Table, column_fallback, fallback, fallback_in, table_numbered}
+use Rattle.lt_lemmas.proofs.RowLemmas.{reads_in_order}
+use Rattle.lt_lemmas.proofs.SnapshotLaws.{AreOver, AreRising, IsNamed, Named, Needs, all_named, changed_or_found, entry_at, has_key, keys_all, keys_rising, named_once, no_row, or_left, or_right, same_map}
 use Rattle.lt_rows.specs.Present.{Present, Rows, full_row, present_by, read_set, reading_of}
 use Rattle.lt_rows.specs.Scans.{RiseByKey}
 use Rattle.lt_rows.proofs.Entries.{Over, Rises, all_found}

@@ -10,21 +10,21 @@ use Rattle.std.proofs.lemmas.Bool.{and_parts, false≢true}
 use Rattle.std.proofs.lemmas.Bool.Decides.{nat_tests}
 use Rattle.std.proofs.lemmas.Cmp.{nat_cmp_total, tied_itself}
 use Rattle.std.proofs.lemmas.List.{length-append, length-map}
-use Rattle.lt_model.specs.declared.KeyKind.{KeyKind}
-use Rattle.lt_model.specs.Value.{Value, is_number, is_timestamp, null_value}
-use Rattle.lt_model.specs.Key.{KeyPart, below, bytes_cmp, greater_low, in_range, is_key_of, is_part_of, key_bytes, max_key, part_bytes}
-use Rattle.lt_model.specs.Laws.{AreKeyed, IsKeyed}
-use Rattle.lt_model.specs.Log.{Change, change_key, is_change}
-use Rattle.lt_model.specs.Outside.{is_deliverable}
-use Rattle.lt_model.specs.Query.{all_rows, answer, full_columns, holds, interval, is_true, pick, places_from}
-use Rattle.lt_model.specs.Row.{Entry}
-use Rattle.lt_model.specs.Schema.{Catalogue, Column, IsCatalogue, SchemaVersion, Table, key_kinds, registered, table_numbered}
-use Rattle.lt_model.specs.Fair.{has_change_shape}
-use Rattle.lt_model.specs.Script.{plain_query}
+use Rattle.lt_terms.specs.declared.KeyKind.{KeyKind}
+use Rattle.lt_terms.specs.Value.{Value, is_number, is_timestamp, null_value}
+use Rattle.lt_terms.specs.Key.{KeyPart, below, bytes_cmp, greater_low, in_range, is_key_of, is_part_of, key_bytes, max_key, part_bytes}
+use Rattle.lt_tables.specs.Row.{AreKeyed, IsKeyed}
+use Rattle.lt_terms.specs.Log.{Change, change_key, is_change}
+use Rattle.lt_tables.specs.Pump.{is_deliverable}
+use Rattle.lt_tables.specs.Query.{all_rows, answer, full_columns, holds, interval, is_true, pick, places_from}
+use Rattle.lt_tables.specs.Row.{Entry}
+use Rattle.lt_tables.specs.Schema.{Catalogue, Column, IsCatalogue, SchemaVersion, Table, key_kinds, registered, table_numbered}
+use Rattle.lt_tables.specs.Fair.{has_change_shape}
+use Rattle.lt_words.specs.Script.{plain_query}
 use Rattle.lt_codecs.proofs.KeyLaws.{tables_cmp}
-use Rattle.lt_laws.proofs.TableLaws.{fine_table}
-use Rattle.lt_laws.proofs.TakenLaws.{number_fits, shape_key}
-use Rattle.lt_laws.proofs.VersionGrowth.{its_number}
+use Rattle.lt_lemmas.proofs.TableLaws.{fine_table}
+use Rattle.lt_lemmas.proofs.TakenLaws.{number_fits, shape_key}
+use Rattle.lt_lemmas.proofs.VersionGrowth.{its_number}
 use Rattle.lt_rows.specs.Present.{Present, Rows, full_row, present_by}
 use Rattle.lt_rows.specs.Scans.{AreShaped, RiseByKey, scan_rows}
 use Rattle.lt_rows.proofs.PresentLaws.{IsNamedRow}

@@ -4,15 +4,15 @@ use Rattle.std.specs.BTreeMap.{insert_entry, is_at}
 use Rattle.std.specs.Map.{lookup, remove_entry, set_value}
 use Rattle.std.specs.Option.{option_map_or}
 use Rattle.std.specs.Ordering.{nat_cmp}
-use Rattle.lt_model.specs.declared.Op.{Op}
-use Rattle.lt_model.specs.declared.Op.TheVariants as ops
-use Rattle.lt_model.specs.Value.{Value, null_value}
-use Rattle.lt_model.specs.Kind.{Kind}
-use Rattle.lt_model.specs.Conversion.{conv}
-use Rattle.lt_model.specs.Key.{KeyPart, bytes_cmp, part_value}
-use Rattle.lt_model.specs.Layout.{setting}
-use Rattle.lt_model.specs.Log.{Change, change_key}
-use Rattle.lt_model.specs.Schema.{Catalogue, Column, fallback_in}
+use Rattle.lt_terms.specs.declared.Op.{Op}
+use Rattle.lt_terms.specs.declared.Op.TheVariants as ops
+use Rattle.lt_terms.specs.Value.{Value, null_value}
+use Rattle.lt_terms.specs.Kind.{Kind}
+use Rattle.lt_terms.specs.Conversion.{conv}
+use Rattle.lt_terms.specs.Key.{KeyPart, bytes_cmp, part_value}
+use Rattle.lt_terms.specs.Layout.{setting}
+use Rattle.lt_terms.specs.Log.{Change, change_key}
+use Rattle.lt_tables.specs.Schema.{Catalogue, Column, fallback_in}
 
 -- ---- what was set
 

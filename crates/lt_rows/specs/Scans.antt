@@ -1,13 +1,13 @@
 -- What is read, and from which changes.
 use Rattle.std.specs.Prelude.{IsTrue, List, None, ℕ}
 use Rattle.std.specs.List.{AllByRecursion}
-use Rattle.lt_model.specs.Value.{Value}
-use Rattle.lt_model.specs.Schema.{Catalogue, SchemaVersion, Table}
-use Rattle.lt_model.specs.Log.{Change}
-use Rattle.lt_model.specs.Row.{is_in_time, snapshot}
-use Rattle.lt_model.specs.Query.{answer}
-use Rattle.lt_model.specs.Script.{plain_query}
-use Rattle.lt_model.specs.Outside.{is_deliverable}
+use Rattle.lt_terms.specs.Value.{Value}
+use Rattle.lt_tables.specs.Schema.{Catalogue, SchemaVersion, Table}
+use Rattle.lt_terms.specs.Log.{Change}
+use Rattle.lt_tables.specs.Row.{is_in_time, snapshot}
+use Rattle.lt_tables.specs.Query.{answer}
+use Rattle.lt_words.specs.Script.{plain_query}
+use Rattle.lt_tables.specs.Pump.{is_deliverable}
 
 -- each change has a lawful timestamp, a key that is not too long, and the shape of its registered version
 abbrev pub AreShaped : Catalogue → List Change → Type 0

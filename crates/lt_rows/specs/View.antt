@@ -3,7 +3,7 @@ use Rattle.std.specs.Borrow.{Bor}
 use Rattle.std.specs.Prelude.{List, map, ℕ}
 use Rattle.lt_core.specs.declared.value.Value.{Value}
 use Rattle.lt_core.specs.View.{view_kind, view_parts, view_value}
-use Rattle.lt_model.specs.Log.{Change}
+use Rattle.lt_terms.specs.Log.{Change}
 use Rattle.lt_records.specs.View.{view_change}
 use Rattle.lt_records.specs.declared.record.ChangeRecord.{ChangeRecord}
 use Rattle.lt_rows.specs.declared.present.Present.{Present}

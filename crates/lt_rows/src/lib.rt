@@ -8,7 +8,5 @@
 mod present;
 mod reading;
 mod rows;
-#[cfg(test)]
-mod tests;
 
 pub use rows::rows_at;

@@ -2,7 +2,7 @@
 
 ghost use Rattle.std.specs.Prelude.{◌≡◌, [], IfOk, OnOk};
 ghost use Rattle.lt_core.specs.View.{view_parts, view_settings};
-ghost use Rattle.lt_model.specs.declared.Op.TheVariants as ops;
+ghost use Rattle.lt_terms.specs.declared.Op.TheVariants as ops;
 ghost use Rattle.lt_records.specs.View.{view_change};
 ghost use Rattle.lt_rows.specs.Present.{laid_over, present_by, rows_by, updated, with_change, with_counted};
 ghost use Rattle.lt_rows.specs.View.{view_changes, view_rows, view_set};
@@ -49,7 +49,8 @@ fn take_counted<'a>(
     table: u32,
     at: Ts,
 ) -> Result<(), Memory>
-    ensures { OnOk result (view_rows rows.new.entries ≡ with_counted table at (view_rows rows.old.entries) (view_change change.now)) }
+    ensures { OnOk result (view_rows rows.new.entries ≡ with_counted table at (view_rows rows.old.entries)
+        (view_change change.now)) }
 {
     if change.table == table && change.ts <= at {
         take_change(alloc, rows, change)
@@ -64,7 +65,8 @@ fn take_change<'a>(
     rows: &mut Rows<'a>,
     change: &'a ChangeRecord,
 ) -> Result<(), Memory>
-    ensures { OnOk result (view_rows rows.new.entries ≡ with_change (view_rows rows.old.entries) (view_change change.now)) }
+    ensures { OnOk result (view_rows rows.new.entries ≡ with_change (view_rows rows.old.entries)
+        (view_change change.now)) }
 {
     let key = encode_prefix(alloc, change.table, &change.key)?;
     match change.op {
@@ -85,7 +87,8 @@ fn put_row<'a>(
     parts: &'a KeyParts,
     settings: &'a Settings,
 ) -> Result<(), Memory>
-    ensures { OnOk result (view_rows rows.new.entries ≡ rows_by ops.Insert key (view_parts parts.now) (view_settings settings.now) (view_rows rows.old.entries)) }
+    ensures { OnOk result (view_rows rows.new.entries ≡ rows_by ops.Insert key (view_parts parts.now)
+        (view_settings settings.now) (view_rows rows.old.entries)) }
 {
     let mut set = BTreeMap::new(alloc);
     lay_over(&mut set, settings)?;
@@ -95,7 +98,8 @@ fn put_row<'a>(
 
 /// Sets columns of the row at a key; an absent row stays absent.
 fn update_row<'a>(rows: &mut Rows<'a>, key: &KeyBytes, settings: &'a Settings) -> Result<(), Memory>
-    ensures { OnOk result (view_rows rows.new.entries ≡ updated key.now (view_settings settings.now) (view_rows rows.old.entries)) }
+    ensures { OnOk result (view_rows rows.new.entries ≡ updated key.now (view_settings settings.now)
+        (view_rows rows.old.entries)) }
 {
     match rows.get_mut(key) {
         None => Ok(()),
@@ -105,7 +109,8 @@ fn update_row<'a>(rows: &mut Rows<'a>, key: &KeyBytes, settings: &'a Settings) -
 
 /// Lays settings over what was set before. Of several settings of a column the first counts.
 fn lay_over<'a>(was: &mut Set<'a>, settings: &'a Settings) -> Result<(), Memory>
-    ensures { OnOk result (view_set was.new.entries ≡ laid_over (view_settings settings.now) (view_set was.old.entries)) }
+    ensures { OnOk result (view_set was.new.entries ≡ laid_over (view_settings settings.now)
+        (view_set was.old.entries)) }
 {
     for (number, value) in settings.as_slice().iter().rev() {
         was.insert(*number, value)?;

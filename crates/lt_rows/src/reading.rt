@@ -2,7 +2,7 @@
 
 ghost use Rattle.std.specs.Prelude.{◌≡◌, map, IfOk};
 ghost use Rattle.lt_core.specs.View.{view_parts, view_row, view_value, view_part};
-ghost use Rattle.lt_model.specs.Key as model;
+ghost use Rattle.lt_terms.specs.Key as model;
 ghost use Rattle.lt_rows.specs.Present.{full_row, read_set, reading_of, row_of};
 ghost use Rattle.lt_rows.specs.View.{view_present, view_reading, view_readings, view_rows, view_set};
 ghost use Rattle.lt_schema.specs.View.{view_column, view_columns};
@@ -28,7 +28,9 @@ pub(crate) fn read_rows(
     catalogue: &Catalogue,
     version: &SchemaVersion,
 ) -> Result<List<Row>, Memory>
-    ensures { IfOk result (λ list. map view_row list ≡ map (full_row catalogue.now version.now.number (view_columns version.now.columns)) (view_rows rows.now.entries)) }
+    ensures { IfOk result (λ list. map view_row list ≡ map
+        (full_row catalogue.now version.now.number (view_columns version.now.columns))
+        (view_rows rows.now.entries)) }
 {
     let readings = readings_of(alloc, catalogue, version)?;
     let mut list = List::new(alloc);
@@ -44,7 +46,8 @@ fn readings_of<'a>(
     catalogue: &Catalogue,
     version: &'a SchemaVersion,
 ) -> Result<Vec<Reading<'a>>, Memory>
-    ensures { IfOk result (λ readings. view_readings readings.items ≡ map (reading_of catalogue.now version.now.number) (view_columns version.now.columns)) }
+    ensures { IfOk result (λ readings. view_readings readings.items ≡ map (reading_of catalogue.now version.now.number)
+        (view_columns version.now.columns)) }
 {
     let mut readings = Vec::new(alloc);
     for column in version.columns.as_slice() {

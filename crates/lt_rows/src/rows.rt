@@ -2,7 +2,7 @@
 
 ghost use Rattle.std.specs.Prelude.{◌≡◌, map, IfOk, Some};
 ghost use Rattle.lt_core.specs.View.{view_row};
-ghost use Rattle.lt_model.specs.Schema.{Table, table_numbered};
+ghost use Rattle.lt_tables.specs.Schema.{Table, table_numbered};
 ghost use Rattle.lt_rows.specs.Scans.{AreShaped, RiseByKey, scan_rows};
 ghost use Rattle.lt_rows.specs.View.{view_changes};
 ghost use Rattle.lt_schema.specs.View.{view_version};
@@ -25,8 +25,8 @@ pub fn rows_at(
     version: &SchemaVersion,
     at: Ts,
 ) -> Result<List<Row>, Memory>
-    ensures { IfOk result (λ rows. (t : Table) → AreShaped catalogue.now (view_changes changes.now) → RiseByKey (view_changes changes.now)
-        → table_numbered catalogue.now version.now.number ≡ Some t
+    ensures { IfOk result (λ rows. (t : Table) → AreShaped catalogue.now (view_changes changes.now)
+        → RiseByKey (view_changes changes.now) → table_numbered catalogue.now version.now.number ≡ Some t
         → map view_row rows ≡ scan_rows t (view_version version.now) (view_changes changes.now) at) }
 {
     // What a look-up says of the catalogue: that lawful additions made it.

@@ -9,8 +9,8 @@ use Rattle.std.proofs.lemmas.List.{append-nil, drop_more}
 use Rattle.std.proofs.lemmas.List.Elements.{filter_map-append}
 use Rattle.std.proofs.lemmas.List.Folds.{find-append}
 use Rattle.std.proofs.lemmas.List.Sums.{fold-append}
-use Rattle.lt_model.specs.Kind.{FieldKinds, Kind, enumeration, field_kind, no_kinds, plain, structured}
-use Rattle.lt_model.specs.Schema.{Column, Registered, bare, column_numbered, enum_sizes, enum_sizes_within, joined, joined_all, kinds_given, live_version, put_number}
+use Rattle.lt_terms.specs.Kind.{FieldKinds, Kind, enumeration, field_kind, no_kinds, plain, structured}
+use Rattle.lt_tables.specs.Schema.{Column, Registered, bare, column_numbered, enum_sizes, enum_sizes_within, joined, joined_all, kinds_given, live_version, put_number}
 use Rattle.lt_schema.specs.declared.version.Column as code
 use Rattle.lt_schema.specs.Carriers.{joined_more}
 use Rattle.lt_schema.specs.Limits.{long_in, long_of, long_within, with_numbers}

@@ -3,10 +3,10 @@ use Rattle.std.proofs.Common.{List, None, Option, Some, [], ap, length, lt-ltb, 
 use Rattle.std.specs.Prelude.{IfSome, IsTrue, map, nat_lt, not, option_map, ◌==◌}
 use Rattle.std.specs.Option.{option_or}
 use Rattle.std.proofs.lemmas.Bool.{and_from}
-use Rattle.lt_laws.proofs.CatalogueLaws.{AllPast, NumbersRise, numbers_rise}
-use Rattle.lt_laws.proofs.PointLaws.{first_of-append}
-use Rattle.lt_model.specs.Schema.{Catalogue, Column, IsCatalogue, Registered, SchemaFault, SchemaVersion, any_bad_name, any_number_fault, any_repeated, bad_default, bad_default_of, bad_name, bad_number, changed_kind, column_reused, default_again, default_given, duplicate_name, first_of, is_key_changed, is_mismatch, is_too_deep, key_changed, kind_changed, over_limit, reused_column, schema_fault, table_mismatch, too_deep, too_many, version_not_next, versions_of, when, with_version}
-use Rattle.lt_model.specs.Value.{rises_above, rises_strictly}
+use Rattle.lt_lemmas.proofs.CatalogueLaws.{AllPast, NumbersRise, numbers_rise}
+use Rattle.lt_lemmas.proofs.PointLaws.{first_of-append}
+use Rattle.lt_tables.specs.Schema.{Catalogue, Column, IsCatalogue, Registered, SchemaFault, SchemaVersion, any_bad_name, any_number_fault, any_repeated, bad_default, bad_default_of, bad_name, bad_number, changed_kind, column_reused, default_again, default_given, duplicate_name, first_of, is_key_changed, is_mismatch, is_too_deep, key_changed, kind_changed, over_limit, reused_column, schema_fault, table_mismatch, too_deep, too_many, version_not_next, versions_of, when, with_version}
+use Rattle.lt_terms.specs.Value.{rises_above, rises_strictly}
 use Rattle.lt_schema.specs.Faults.{fault_after, fault_against, fault_alone, fault_among}
 use Rattle.lt_schema.proofs.LimitLaws.{over_limit_is}
 use Rattle.lt_schema.proofs.SeenLaws.{option_or-none}

@@ -3,8 +3,8 @@ use Rattle.std.proofs.Common.{List, None, Option, Some, [], ap, length, map, ref
 use Rattle.std.specs.Prelude.{fold}
 use Rattle.std.proofs.lemmas.List.{take_all}
 use Rattle.lt_core.specs.declared.kind.Kind as code
-use Rattle.lt_model.specs.Kind.{Kind, field_kind, field_kinds_of}
-use Rattle.lt_model.specs.Schema.{bare, bare_fields, joined, joined_all}
+use Rattle.lt_terms.specs.Kind.{Kind, field_kind, field_kinds_of}
+use Rattle.lt_tables.specs.Schema.{bare, bare_fields, joined, joined_all}
 use Rattle.lt_schema.specs.View.{view_field, view_fields}
 
 abbrev pub bare_one : ℕ × List ℕ × Kind → ℕ × List ℕ × Kind

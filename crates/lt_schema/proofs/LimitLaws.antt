@@ -4,10 +4,10 @@ use Rattle.std.specs.Prelude.{IsTrue, find, flat_map, is_some, map, nat_lt, opti
 use Rattle.std.specs.List.{cons_option}
 use Rattle.std.specs.Option.{option_map_or}
 use Rattle.std.proofs.lemmas.Bool.{eq-eqb}
-use Rattle.lt_model.specs.Value.{rises_strictly}
-use Rattle.lt_model.specs.Kind.{FieldKinds, Kind, enumeration, field_kind, no_kinds, plain, structured}
-use Rattle.lt_model.specs.Layout.{field_leaves, layout_of, leaves}
-use Rattle.lt_model.specs.Schema.{Catalogue, Column, Registered, SchemaVersion, Table, carrier, carriers_of, column_numbers, enum_sizes, first_of, joined_all, kinds_given, leaf_count, live_version, new_table, over, over_limit, table_numbered, versions_of, with_version}
+use Rattle.lt_terms.specs.Value.{rises_strictly}
+use Rattle.lt_terms.specs.Kind.{FieldKinds, Kind, enumeration, field_kind, no_kinds, plain, structured}
+use Rattle.lt_terms.specs.Layout.{field_leaves, layout_of, leaves}
+use Rattle.lt_tables.specs.Schema.{Catalogue, Column, Registered, SchemaVersion, Table, carrier, carriers_of, column_numbers, enum_sizes, first_of, joined_all, kinds_given, leaf_count, live_version, new_table, over, over_limit, table_numbered, versions_of, with_version}
 use Rattle.lt_schema.specs.Catalogues.{tables_with}
 use Rattle.lt_schema.specs.Limits.{leaf_total, leaf_totals, leaves_in, long_of, numbers_in, over_counts}
 use Rattle.lt_schema.proofs.Counts.{long_of_is}

@@ -1,7 +1,7 @@
 -- The names of a key's columns and of a struct's fields.
 use Rattle.std.proofs.Common.{List, [], ap, map, refl, ◌∷◌, ◌≡◌, ℕ}
 use Rattle.lt_core.specs.declared.kind.Kind.{Kind}
-use Rattle.lt_model.specs.Schema.{field_names}
+use Rattle.lt_tables.specs.Schema.{field_names}
 use Rattle.lt_schema.specs.declared.version.KeyColumn.{KeyColumn}
 use Rattle.lt_schema.specs.Names.{key_names}
 use Rattle.lt_schema.specs.View.{view_fields, view_key}

@@ -4,14 +4,16 @@ use Rattle.std.specs.Prelude.{Err, Ok, OnErr, OnOk, Result, nat_lt, not, â—Œ&&â—
 use Rattle.std.specs.List.{AllByRecursion}
 use Rattle.std.specs.Option.{option_map_or}
 use Rattle.std.proofs.lemmas.Bool.{and_parts, eq-eqb}
-use Rattle.lt_laws.proofs.ConversionLemmas.{same_bytes-same}
-use Rattle.lt_laws.proofs.ListFacts.{any_none, find_all, none_mapped}
-use Rattle.lt_laws.proofs.PointLaws.{or_left, or_right, when_none}
-use Rattle.lt_laws.proofs.VersionGrowth.{its_number}
-use Rattle.lt_model.specs.declared.KeyKind.{KeyKind}
-use Rattle.lt_model.specs.declared.KeyKind.TheVariants as key_kind
-use Rattle.lt_model.specs.Conversion.{same_bytes}
-use Rattle.lt_model.specs.Schema.{Catalogue, Column, IsCatalogue, KeyColumn, Registered, SchemaVersion, Table, after_adding, after_retiring, change_at, is_key_changed, is_mismatch, key_changed, live_version, new_table, nothing_yet, over, retired_version, same_key_columns, same_key_kind, schema_fault, table_mismatch, table_numbered, too_many, version_not_next, versions_of, when, with_retired, with_version, without_version}
+use Rattle.lt_lemmas.proofs.ConversionLemmas.{same_bytes-same}
+use Rattle.lt_codecs.proofs.ListFacts.{any_none, none_mapped}
+use Rattle.lt_lemmas.proofs.ListFacts.{find_all}
+use Rattle.lt_codecs.proofs.ListFacts.{or_left, or_right}
+use Rattle.lt_lemmas.proofs.ListFacts.{when_none}
+use Rattle.lt_lemmas.proofs.VersionGrowth.{its_number}
+use Rattle.lt_terms.specs.declared.KeyKind.{KeyKind}
+use Rattle.lt_terms.specs.declared.KeyKind.TheVariants as key_kind
+use Rattle.lt_terms.specs.Conversion.{same_bytes}
+use Rattle.lt_tables.specs.Schema.{Catalogue, Column, IsCatalogue, KeyColumn, Registered, SchemaVersion, Table, after_adding, after_retiring, change_at, is_key_changed, is_mismatch, key_changed, live_version, new_table, nothing_yet, over, retired_version, same_key_columns, same_key_kind, schema_fault, table_mismatch, table_numbered, too_many, version_not_next, versions_of, when, with_retired, with_version, without_version}
 use Rattle.lt_schema.specs.Catalogues.{IsNext, tables_with}
 use Rattle.lt_schema.specs.Faults.{fault_after, fault_against, fault_alone, fault_among}
 use Rattle.lt_schema.specs.Limits.{over_counts}

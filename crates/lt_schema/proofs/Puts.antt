@@ -5,12 +5,12 @@ use Rattle.std.specs.List.{AllByRecursion}
 use Rattle.std.proofs.lemmas.Bool.{eq-eqb}
 use Rattle.std.proofs.lemmas.List.{drop-set, drop_more, reverse-append, take-append-drop, take-set, take_more}
 use Rattle.std.proofs.lemmas.Option.{none-some, slice_get_read}
-use Rattle.lt_laws.proofs.ListFacts.{all_append}
+use Rattle.lt_codecs.proofs.ListFacts.{all_append}
 use Rattle.lt_core.specs.declared.kind.Kind.{Kind}
 use Rattle.lt_core.specs.View.{view_kind}
-use Rattle.lt_model.specs.Kind as kinds
-use Rattle.lt_model.specs.Kind.{field_kind}
-use Rattle.lt_model.specs.Schema.{put_kind}
+use Rattle.lt_terms.specs.Kind as kinds
+use Rattle.lt_terms.specs.Kind.{field_kind}
+use Rattle.lt_tables.specs.Schema.{put_kind}
 use Rattle.lt_schema.specs.Carriers.{EndsBelow, falling_fields}
 use Rattle.lt_schema.specs.View.{view_fields}
 

@@ -6,8 +6,8 @@ use Rattle.std.proofs.lemmas.Int.{ints}
 use Rattle.std.specs.Prelude.{FitsSigned}
 use Rattle.std.proofs.lemmas.List.{drop_more, map_push, take_more}
 use Rattle.std.proofs.lemmas.List.Folds.{find-append}
-use Rattle.lt_model.specs.Value.{fits_32}
-use Rattle.lt_model.specs.Schema.{not_rising}
+use Rattle.lt_terms.specs.Value.{fits_32}
+use Rattle.lt_tables.specs.Schema.{not_rising}
 use Rattle.lt_schema.specs.Numbers.{not_above}
 
 -- the one before, if there is one, and those that follow

@@ -11,9 +11,9 @@ use Rattle.std.proofs.lemmas.List.{drop_more, map_push, take_all, take_more}
 use Rattle.std.proofs.Math.ListN.{drop_of_length-le}
 use Rattle.std.proofs.lemmas.Map.Text.{is_eq-slice_cmp}
 use Rattle.std.proofs.lemmas.Slice.Eq.{bytes_eq-Decides}
-use Rattle.lt_model.specs.Conversion.{same_bytes}
-use Rattle.lt_model.specs.Schema as schema
-use Rattle.lt_model.specs.Schema.{first_of, is_among, repeated, repeated_column, repeated_in, when}
+use Rattle.lt_terms.specs.Conversion.{same_bytes}
+use Rattle.lt_tables.specs.Schema as schema
+use Rattle.lt_tables.specs.Schema.{first_of, is_among, repeated, repeated_column, repeated_in, when}
 use Rattle.lt_core.specs.View.{view_kind}
 use Rattle.lt_schema.specs.declared.version.Column.{Column}
 use Rattle.lt_schema.specs.View.{view_column, view_columns}

@@ -7,8 +7,8 @@ use Rattle.std.proofs.lemmas.Option.{get_or_from_slice_get, none-some, slice_get
 use Rattle.lt_core.specs.declared.kind.Kind.{Kind}
 use Rattle.lt_core.specs.declared.value.Value.{Value}
 use Rattle.lt_core.specs.View.{view_kind, view_settings, view_value}
-use Rattle.lt_model.specs.Kind.{has_shape, have_shapes}
-use Rattle.lt_model.specs.Value.{fields_of, no_fields}
+use Rattle.lt_terms.specs.Kind.{has_shape, have_shapes}
+use Rattle.lt_terms.specs.Value.{fields_of, no_fields}
 use Rattle.lt_schema.specs.View.{view_fields}
 
 pub drop_got : {A : Type 0} (xs : List A) (i : ℕ) (x : A) → slice_get xs i ≡ Some x → drop i xs ≡ x ∷ drop (i + 1) xs

@@ -5,8 +5,8 @@ use Rattle.std.specs.List.{AllByRecursion}
 use Rattle.std.specs.Option.{option_map_or}
 use Rattle.std.proofs.lemmas.Bool.{and_parts, eq-eqb, eqb-false, eqb-true, false≢true}
 use Rattle.std.proofs.lemmas.Option.{none-some, same_Some}
-use Rattle.lt_model.specs.Value.{Value, null_value, rises_above, rises_strictly}
-use Rattle.lt_model.specs.Schema.{Catalogue, Column, Registered, SchemaVersion, Table, carrier, column_fallback, column_numbered, fallback_in, has_column, joined_all, kinds_given, live_version, new_table, table_numbered, versions_of, with_version}
+use Rattle.lt_terms.specs.Value.{Value, null_value, rises_above, rises_strictly}
+use Rattle.lt_tables.specs.Schema.{Catalogue, Column, Registered, SchemaVersion, Table, carrier, column_fallback, column_numbered, fallback_in, has_column, joined_all, kinds_given, live_version, new_table, table_numbered, versions_of, with_version}
 use Rattle.lt_schema.specs.Catalogues.{IsPlace, is_at}
 use Rattle.lt_schema.specs.Lookups.{declared}
 

@@ -4,8 +4,8 @@ use Rattle.std.specs.Prelude.{IfSome, option_map, slice_get}
 use Rattle.std.specs.Borrow.{Bor}
 use Rattle.std.specs.Option.{option_copied}
 use Rattle.std.proofs.lemmas.Option.{slice_get-map}
-use Rattle.lt_model.specs.Schema as schema
-use Rattle.lt_model.specs.Schema.{change_at, latest, registered, retired_version, whole_version}
+use Rattle.lt_tables.specs.Schema as schema
+use Rattle.lt_tables.specs.Schema.{change_at, latest, registered, retired_version, whole_version}
 use Rattle.lt_schema.specs.declared.table.Registered.{Registered}
 use Rattle.lt_schema.specs.declared.table.Table.TheInside.{Inside}
 use Rattle.lt_schema.specs.Tables.{AreWhole, view_registered, view_table}

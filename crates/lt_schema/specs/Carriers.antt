@@ -1,9 +1,9 @@
 -- Carriers, kind by kind and field by field.
 use Rattle.std.specs.Prelude.{List, None, Option, Some, drop, length, reverse, slice_get, ℕ, ◌+◌, ◌<◌, ◌≡◌, ◌≤◌}
 use Rattle.std.specs.List.{AllByRecursion}
-use Rattle.lt_model.specs.Kind as kinds
-use Rattle.lt_model.specs.Kind.{kind_at}
-use Rattle.lt_model.specs.Schema.{bare, joined}
+use Rattle.lt_terms.specs.Kind as kinds
+use Rattle.lt_terms.specs.Kind.{kind_at}
+use Rattle.lt_tables.specs.Schema.{bare, joined}
 use Rattle.lt_core.specs.declared.kind.Kind.{Kind}
 use Rattle.lt_schema.specs.View.{view_fields}
 

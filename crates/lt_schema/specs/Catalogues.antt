@@ -2,8 +2,8 @@
 use Rattle.std.specs.Prelude.{Bool, IsTrue, None, Some, false, if◌then◌else◌, is_some, length, map, slice_get, suc, take, ℕ, ◌+◌, ◌<◌, ◌==◌, ◌≡◌, ◌≤◌}
 use Rattle.std.specs.List.{AllByRecursion}
 use Rattle.std.specs.Option.{option_map_or}
-use Rattle.lt_model.specs.Value.{rises_strictly}
-use Rattle.lt_model.specs.Schema.{Catalogue, IsCatalogue, SchemaVersion, Table, live_version, table_numbered, whole_version}
+use Rattle.lt_terms.specs.Value.{rises_strictly}
+use Rattle.lt_tables.specs.Schema.{Catalogue, IsCatalogue, SchemaVersion, Table, live_version, table_numbered, whole_version}
 use Rattle.lt_core.specs.declared.value.Value.TheVariants as values
 use Rattle.lt_schema.specs.declared.catalogue.Catalogue.TheInside.{Inside}
 

@@ -1,10 +1,10 @@
 -- Nesting and defaults, by parts.
 use Rattle.std.specs.Prelude.{Bool, List, nat_lt, not, unwrap_or, ◌&&◌}
 use Rattle.std.specs.List.{list_any}
-use Rattle.lt_model.specs.Value.{null_value}
-use Rattle.lt_model.specs.Kind.{has_shape, nesting}
-use Rattle.lt_model.specs.Log.{is_log_value}
-use Rattle.lt_model.specs.Schema.{Column}
+use Rattle.lt_terms.specs.Value.{null_value}
+use Rattle.lt_terms.specs.Kind.{has_shape, nesting}
+use Rattle.lt_terms.specs.Log.{is_log_value}
+use Rattle.lt_tables.specs.Schema.{Column}
 
 -- none of the kinds nests more than 4 deep
 abbrev pub nest_low : List Column → Bool

@@ -1,8 +1,8 @@
 -- Why a version is refused, group by group.
 use Rattle.std.specs.Prelude.{Err, IfSome, List, None, Ok, Option, Result, Some, [], length, not, option_map, ℕ, ◌+◌, ◌==◌, ◌∷◌, ◌≡◌}
 use Rattle.std.specs.Option.{option_or}
-use Rattle.lt_model.specs.Schema as schema
-use Rattle.lt_model.specs.Schema.{Catalogue, RetireFault, SchemaFault, SchemaVersion, any_bad_name, any_number_fault, any_repeated, bad_default_of, changed_kind, default_again, first_of, is_key_changed, is_mismatch, is_too_deep, reused_column, versions_of, when}
+use Rattle.lt_tables.specs.Schema as schema
+use Rattle.lt_tables.specs.Schema.{Catalogue, RetireFault, SchemaFault, SchemaVersion, any_bad_name, any_number_fault, any_repeated, bad_default_of, changed_kind, default_again, first_of, is_key_changed, is_mismatch, is_too_deep, reused_column, versions_of, when}
 use Rattle.lt_schema.specs.declared.refusal.RetireRefusal.{RetireRefusal}
 use Rattle.lt_schema.specs.declared.refusal.RetireRefusal.TheVariants as retire
 use Rattle.lt_schema.specs.declared.refusal.SchemaRefusal.{SchemaRefusal}

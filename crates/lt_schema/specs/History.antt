@@ -1,7 +1,7 @@
 -- What a column may not do against the older versions, one by one.
 use Rattle.std.specs.Prelude.{Bool, List, is_none, ℕ, ◌&&◌}
 use Rattle.std.specs.List.{list_any}
-use Rattle.lt_model.specs.Schema.{Column, Registered, clash, column_numbered, has_column, kinds_given, latest}
+use Rattle.lt_tables.specs.Schema.{Column, Registered, clash, column_numbered, has_column, kinds_given, latest}
 
 -- an older version has the number, and the latest has not
 abbrev pub was_dropped : List Registered → ℕ → Bool

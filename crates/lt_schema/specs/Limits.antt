@@ -1,8 +1,8 @@
 -- What is counted against the limits.
 use Rattle.std.specs.Prelude.{List, None, Option, [], flat_map, fold, length, ℕ, ◌+◌, ◌++◌, ◌∷◌}
 use Rattle.std.specs.Option.{option_map_or, option_or}
-use Rattle.lt_model.specs.Kind.{FieldKinds, Kind, enumeration, field_kind, no_kinds, plain, structured}
-use Rattle.lt_model.specs.Schema.{Column, Registered, first_of, joined_all, kinds_given, live_version, over, put_number}
+use Rattle.lt_terms.specs.Kind.{FieldKinds, Kind, enumeration, field_kind, no_kinds, plain, structured}
+use Rattle.lt_tables.specs.Schema.{Column, Registered, first_of, joined_all, kinds_given, live_version, over, put_number}
 
 -- rising numbers, with those of columns
 abbrev pub with_numbers : List ℕ → List Column → List ℕ

@@ -1,7 +1,7 @@
 -- Look-ups by parts.
 use Rattle.std.specs.Prelude.{List, Option, ℕ, find}
 use Rattle.std.specs.Prelude.{option_and_then}
-use Rattle.lt_model.specs.Schema.{Column, Registered, column_numbered, has_column}
+use Rattle.lt_tables.specs.Schema.{Column, Registered, column_numbered, has_column}
 
 -- a column as it was first declared
 abbrev pub declared : List Registered → ℕ → Option Column

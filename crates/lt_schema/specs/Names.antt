@@ -1,7 +1,7 @@
 -- The names of a version, by parts.
 use Rattle.std.specs.Prelude.{List, Option, [], map, ℕ, ◌∷◌}
 use Rattle.std.specs.Option.{option_or}
-use Rattle.lt_model.specs.Schema.{Column, KeyColumn, bad_name_in, bad_name_of, first_of}
+use Rattle.lt_tables.specs.Schema.{Column, KeyColumn, bad_name_in, bad_name_of, first_of}
 
 -- the first name of a key column that is none
 abbrev pub bad_key_name : List KeyColumn → Option (List ℕ)

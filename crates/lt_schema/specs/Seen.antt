@@ -3,7 +3,7 @@ use Rattle.std.specs.Prelude.{List, ℕ, ◌≡◌}
 use Rattle.std.specs.Ordering.{nat_cmp}
 use Rattle.std.specs.Cmp.Lexicographic.{slice_cmp}
 use Rattle.std.specs.BTreeSet.{BTreeSet, contains}
-use Rattle.lt_model.specs.Schema.{is_among}
+use Rattle.lt_tables.specs.Schema.{is_among}
 use Rattle.std.specs.Borrow.{Bor}
 
 -- exactly these names were seen

@@ -1,7 +1,7 @@
 -- What a table and its versions stand for.
 use Rattle.std.specs.Prelude.{Some, map, slice_get, suc, ℕ, ◌≡◌}
-use Rattle.lt_model.specs.Schema as schema
-use Rattle.lt_model.specs.Schema.{whole_version}
+use Rattle.lt_tables.specs.Schema as schema
+use Rattle.lt_tables.specs.Schema.{whole_version}
 use Rattle.lt_schema.specs.View.{view_columns, view_key, view_version}
 use Rattle.lt_schema.specs.declared.table.Registered.{Registered}
 use Rattle.lt_schema.specs.declared.table.Table.TheInside.{Inside}

@@ -1,7 +1,7 @@
 -- What schema versions and refusals stand for in the definitions.
 use Rattle.std.specs.Prelude.{List, map, option_map, ℕ}
-use Rattle.lt_model.specs.Kind as kinds
-use Rattle.lt_model.specs.Schema as schema
+use Rattle.lt_terms.specs.Kind as kinds
+use Rattle.lt_tables.specs.Schema as schema
 use Rattle.lt_core.specs.declared.kind.Kind.{Kind}
 use Rattle.lt_core.specs.View.{view_kind, view_value}
 use Rattle.lt_schema.specs.declared.version.Column.{Column}

@@ -1,7 +1,7 @@
 //! Adding a version: the tests, in their order.
 
 ghost use Rattle.std.specs.Prelude.{map, option_map};
-ghost use Rattle.lt_model.specs.Schema.{too_many};
+ghost use Rattle.lt_tables.specs.Schema.{too_many};
 ghost use Rattle.lt_schema.specs.Faults.{Finds, fault_after, fault_alone, fault_of_columns};
 ghost use Rattle.lt_schema.specs.Limits.{over_counts};
 ghost use Rattle.lt_schema.specs.Tables.{view_registered};
@@ -85,7 +85,8 @@ fn test_limits(
     versions: &[Registered],
     columns: &[Column],
 ) -> Result<(), SchemaRefusal>
-    ensures { Finds (option_map too_many (over_counts tables (map view_registered versions.now) (view_columns columns.now))) result }
+    ensures { Finds (option_map too_many
+        (over_counts tables (map view_registered versions.now) (view_columns columns.now))) result }
 {
     match passed_limit(alloc, tables, versions, columns)? {
         None => Ok(()),

@@ -5,8 +5,8 @@
 
 ghost use Rattle.std.specs.Prelude.{◌≡◌, ◌++◌, ◌<◌, ◌≤◌, [], ◌∷◌, drop, length, map, option_map, IfOk, OnOk};
 ghost use Rattle.std.specs.Option.{option_copied};
-ghost use Rattle.lt_model.specs.Kind.{greater_rank, kinds_of, rank_of, rank_number};
-ghost use Rattle.lt_model.specs.Schema.{bare, bare_fields, joined, joined_all, joined_fields, kinds_given, put_kind};
+ghost use Rattle.lt_terms.specs.Kind.{greater_rank, kinds_of, rank_of, rank_number};
+ghost use Rattle.lt_tables.specs.Schema.{bare, bare_fields, joined, joined_all, joined_fields, kinds_given, put_kind};
 ghost use Rattle.lt_core.specs.View.{view_kind};
 ghost use Rattle.lt_schema.specs.Carriers.{EndsBelow, falling_fields, joined_more};
 ghost use Rattle.lt_schema.specs.Tables.{view_registered};
@@ -19,7 +19,8 @@ use std::alloc::Global;
 
 /// The carrier that versions give a column; none where none of them has it.
 pub fn carrier_of(versions: &[Registered], number: u16) -> Result<Option<Kind>, Memory>
-    ensures { IfOk result (λ carrier. option_map view_kind carrier ≡ joined_all (kinds_given (map view_registered versions.now) number)) }
+    ensures { IfOk result (λ carrier. option_map view_kind carrier ≡ joined_all
+        (kinds_given (map view_registered versions.now) number)) }
 {
     let mut carrier = None;
     for registered in versions {
@@ -98,7 +99,8 @@ fn join_fields(fields: &FieldKinds, olders: &[Field]) -> Result<FieldKinds, Memo
 /// The kind joined with the older one of its field, if there is one.
 #[cycle(join)]
 fn join_onto(kind: &Kind, older: Option<&Kind>) -> Result<Kind, Memory>
-    ensures { IfOk result (λ wide. view_kind wide ≡ joined_more (option_map view_kind (option_copied older.entry)) (view_kind kind.now)) }
+    ensures { IfOk result (λ wide. view_kind wide ≡ joined_more (option_map view_kind (option_copied older.entry))
+        (view_kind kind.now)) }
 {
     match older {
         None => bare(kind),
@@ -108,7 +110,8 @@ fn join_onto(kind: &Kind, older: Option<&Kind>) -> Result<Kind, Memory>
 
 /// Puts a field among others in falling order, in the place of the one with its number.
 fn put(falling: &mut Vec<Field>, field: Field) -> Result<(), Memory>
-    ensures { OnOk result (falling_fields falling.new.items ≡ put_kind field.0 field.1 (view_kind field.2) (falling_fields falling.old.items)) }
+    ensures { OnOk result (falling_fields falling.new.items ≡ put_kind field.0 field.1 (view_kind field.2)
+        (falling_fields falling.old.items)) }
 {
     let at = above(falling, field.0);
     if at > 0 && falling[at - 1].0 == field.0 {

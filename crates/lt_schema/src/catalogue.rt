@@ -2,7 +2,7 @@
 
 ghost use Rattle.std.specs.Prelude.{◌≡◌, [], false, option_and_then, option_map, IfOk, None, OnErr, OnOk, Some};
 ghost use Rattle.std.specs.Option.{option_copied, option_map_or};
-ghost use Rattle.lt_model.specs.Schema.{Gives, IsCatalogue, added, carrier, column_live, fallback_in, is_live, retire_fault, retired, schema_fault, schema_version, table_named, table_numbered, with_version};
+ghost use Rattle.lt_tables.specs.Schema.{Gives, IsCatalogue, added, carrier, column_live, fallback_in, is_live, retire_fault, retired, schema_fault, schema_version, table_named, table_numbered, with_version};
 ghost use Rattle.lt_core.specs.View.{view_kind, view_value};
 ghost use Rattle.lt_schema.specs.Faults.{Finds, Refuses, fault_against, fault_among, view_refusal, view_retire};
 ghost use Rattle.lt_schema.specs.View.{view_version};
@@ -29,8 +29,8 @@ pub struct Catalogue {
 }
 
 impl Model for Catalogue {
-    ghost use Rattle.lt_model.specs.Schema as schema;
-    ghost use Rattle.lt_model.specs.ModelCodes.{coded_catalogue};
+    ghost use Rattle.lt_tables.specs.Schema as schema;
+    ghost use Rattle.lt_tables.specs.Coded.{coded_catalogue};
 
     ghost Value = { schema.Catalogue };
 
@@ -62,6 +62,14 @@ impl Catalogue {
         self.test(&version)?;
         self.install(version)?;
         Ok(())
+    }
+
+    /// The tables, by rising number.
+    pub fn tables(&self) -> &[Table]
+        ensures tables { result.now ≡ self.now }
+        ensures lawful { IsCatalogue self.now }
+    {
+        &self.tables
     }
 
     /// Retires a version; the latest of a table stays live.
@@ -126,7 +134,8 @@ impl Catalogue {
 
     /// The kind that takes what every version of a column brings. None where no version has the column.
     pub fn carrier(&self, number: u32, column: u16) -> Result<Option<Kind>, Memory>
-        ensures { IfOk result (λ kind. option_map view_kind kind ≡ option_and_then (λ t. carrier t column) (table_numbered self.now number)) }
+        ensures { IfOk result (λ kind. option_map view_kind kind ≡ option_and_then (λ t. carrier t column)
+            (table_numbered self.now number)) }
     {
         carrier_of(versions_of(&self.tables, number), column)
     }

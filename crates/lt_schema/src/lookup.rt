@@ -3,8 +3,8 @@
 ghost use Rattle.std.specs.Prelude.{◌≡◌, ◌&&◌, map, option_map};
 ghost use Rattle.std.specs.List.{list_any};
 ghost use Rattle.std.specs.Option.{option_copied};
-ghost use Rattle.lt_model.specs.Kind.{kind_at, kinds_of};
-ghost use Rattle.lt_model.specs.Schema.{column_numbered, has_column, latest};
+ghost use Rattle.lt_terms.specs.Kind.{kind_at, kinds_of};
+ghost use Rattle.lt_tables.specs.Schema.{column_numbered, has_column, latest};
 ghost use Rattle.lt_core.specs.View.{view_kind};
 ghost use Rattle.lt_schema.specs.Lookups.{declared};
 ghost use Rattle.lt_schema.specs.Tables.{view_registered};

@@ -5,7 +5,7 @@
 
 ghost use Rattle.std.specs.Prelude.{◌≡◌, [], ◌∷◌, ◌++◌, false, length, map, option_map, slice_get, suc, IfOk, IfSome, OnErr, OnOk};
 ghost use Rattle.std.specs.Option.{option_copied, option_map_or};
-ghost use Rattle.lt_model.specs.Schema.{live_version, new_table, registered, whole_version, with_retired};
+ghost use Rattle.lt_tables.specs.Schema.{live_version, new_table, registered, whole_version, with_retired};
 ghost use Rattle.lt_schema.specs.Tables.{view_registered};
 ghost use Rattle.lt_schema.specs.View.{view_columns, view_key, view_version};
 
@@ -31,8 +31,8 @@ pub struct Table {
 }
 
 impl Model for Table {
-    ghost use Rattle.lt_model.specs.Schema as schema;
-    ghost use Rattle.lt_model.specs.ModelCodes.{coded_table};
+    ghost use Rattle.lt_tables.specs.Schema as schema;
+    ghost use Rattle.lt_tables.specs.Coded.{coded_table};
 
     ghost Value = { schema.Table };
 
@@ -47,7 +47,7 @@ impl Model for Table {
 
 impl Table {
     /// A table with its first version.
-    pub fn new(alloc: Global, version: SchemaVersion) -> Result<Table, Memory>
+    pub(crate) fn new(alloc: Global, version: SchemaVersion) -> Result<Table, Memory>
         requires { version.version ≡ 1 }
         ensures { IfOk result (λ table. table ≡ new_table (view_version version)) }
     {
@@ -94,7 +94,8 @@ impl Table {
 
     /// The version with a number.
     pub fn version(&self, version: u32) -> Option<&SchemaVersion>
-        ensures { option_map view_version (option_copied result) ≡ option_map (whole_version self.now version) (registered self.now version) }
+        ensures { option_map view_version (option_copied result) ≡ option_map (whole_version self.now version)
+            (registered self.now version) }
     {
         match self.registered(version) {
             None => None,
@@ -114,16 +115,19 @@ impl Table {
 
     fn registered(&self, version: u32) -> Option<&Registered>
         ensures found { option_map view_registered (option_copied result) ≡ registered self.now version }
-        ensures whole { IfSome result (λ r. view_version r.now.version ≡ whole_version self.now version (view_registered r.now)) }
+        ensures whole { IfSome result (λ r. view_version r.now.version ≡ whole_version self.now version
+            (view_registered r.now)) }
     {
         let place = (version as usize).checked_sub(1)?;
         at(&self.versions, place)
     }
 
     /// Adds the next version. An `Err` changes nothing.
-    pub fn add(&mut self, version: SchemaVersion) -> Result<(), Memory>
-        requires { view_version version ≡ whole_version self.old (suc (length self.old.versions)) (live_version (view_columns version.columns)) }
-        ensures ok { OnOk result (self.new ≡ record self.old { versions = self.old.versions ++ live_version (view_columns version.columns) ∷ [] }) }
+    pub(crate) fn add(&mut self, version: SchemaVersion) -> Result<(), Memory>
+        requires { view_version version ≡ whole_version self.old (suc (length self.old.versions))
+            (live_version (view_columns version.columns)) }
+        ensures ok { OnOk result (self.new ≡ record self.old
+            { versions = self.old.versions ++ live_version (view_columns version.columns) ∷ [] }) }
         ensures err { OnErr result (self.new ≡ self.old) }
     {
         self.versions.push(Registered {
@@ -134,7 +138,7 @@ impl Table {
     }
 
     /// Retires a version, where it was added.
-    pub fn retire(&mut self, version: u32)
+    pub(crate) fn retire(&mut self, version: u32)
         ensures { self.new ≡ with_retired version self.old }
     {
         let place = (version as usize).saturating_sub(1);

@@ -2,7 +2,7 @@
 
 ghost use Rattle.std.specs.Prelude.{◌≡◌, ◌==◌, ◌<◌, ◌≤◌, if◌then◌else◌, length, map, OnErr, OnOk};
 ghost use Rattle.std.specs.Option.{option_copied};
-ghost use Rattle.lt_model.specs.Schema.{is_key_changed, is_mismatch, same_key_columns, same_key_kind, table_named, table_numbered, versions_of, with_retired, with_version, without_version};
+ghost use Rattle.lt_tables.specs.Schema.{is_key_changed, is_mismatch, same_key_columns, same_key_kind, table_named, table_numbered, versions_of, with_retired, with_version, without_version};
 ghost use Rattle.lt_schema.specs.Catalogues.{IsNext, IsPlace, is_at, tables_with};
 ghost use Rattle.lt_schema.specs.Tables.{view_registered};
 ghost use Rattle.lt_schema.specs.View.{view_key, view_version};

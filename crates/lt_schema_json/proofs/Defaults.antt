@@ -5,10 +5,10 @@ use Rattle.std.proofs.lemmas.List.{append-nil, drop_all, drop_more, map_push, ta
 use Rattle.serde_json.specs.Data.{Data}
 use Rattle.serde_json.specs.View.{view}
 use Rattle.serde_json.specs.declared.value.Value.{Value as Json}
-use Rattle.lt_model.specs.Kind.{Kind, field_kinds_of}
-use Rattle.lt_model.specs.Query.{hex_digit, hex_pairs}
-use Rattle.lt_model.specs.Value as model
-use Rattle.lt_model.specs.SchemaText.{as_list, default_in, defaults_in}
+use Rattle.lt_terms.specs.Kind.{Kind, field_kinds_of}
+use Rattle.lt_tables.specs.Query.{hex_digit, hex_pairs}
+use Rattle.lt_terms.specs.Value as model
+use Rattle.lt_words.specs.SchemaText.{as_list, default_in, defaults_in}
 use Rattle.lt_core.specs.View.{view_kind, view_setting, view_settings, view_value}
 use Rattle.lt_core.specs.declared.kind.Kind as code
 use Rattle.lt_core.specs.declared.value.Value.{Value}

@@ -6,8 +6,8 @@ use Rattle.serde_json.specs.Data as json
 use Rattle.serde_json.specs.View.{view}
 use Rattle.serde_json.specs.declared.value.Value.{Value, Array}
 use Rattle.serde_json.proofs.Views.{view-Array}
-use Rattle.lt_model.specs.Kind.{Kind, field_kinds_of}
-use Rattle.lt_model.specs.SchemaText.{all_of, as_list, as_number_up_to, as_text, item_list, kind_in, triples, triples_in, with_field}
+use Rattle.lt_terms.specs.Kind.{Kind, field_kinds_of}
+use Rattle.lt_words.specs.SchemaText.{all_of, as_list, as_number_up_to, as_text, item_list, kind_in, triples, triples_in, with_field}
 use Rattle.lt_schema_json.specs.Reading.{one_field, values_view}
 use Rattle.lt_schema_json.proofs.Members.{list_of_items}
 

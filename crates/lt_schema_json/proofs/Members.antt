@@ -7,8 +7,8 @@ use Rattle.serde_json.specs.Find.{as_array}
 use Rattle.serde_json.specs.View.{items_view, members_view, view}
 use Rattle.serde_json.specs.declared.value.Value.{Value}
 use Rattle.serde_json.proofs.Views.{Entry}
-use Rattle.lt_model.specs.Schema.{is_among}
-use Rattle.lt_model.specs.SchemaText.{as_list, item_list, member_names}
+use Rattle.lt_tables.specs.Schema.{is_among}
+use Rattle.lt_words.specs.SchemaText.{as_list, item_list, member_names}
 use Rattle.lt_schema_json.specs.Reading.{values_view}
 
 -- the first name that is none of the known ones

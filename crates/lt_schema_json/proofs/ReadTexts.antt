@@ -6,8 +6,8 @@ use Rattle.std.specs.Str.{is_utf8}
 use Rattle.std.proofs.lemmas.Str.{IsUtf8-from_is_utf8, is_utf8-from_IsUtf8}
 use Rattle.serde_json.specs.Data.{Data}
 use Rattle.serde_json.specs.Read.{read}
-use Rattle.lt_model.specs.Schema.{Column}
-use Rattle.lt_model.specs.SchemaText.{◌>>=◌, JsonFault, not_json, version_in, version_of_text}
+use Rattle.lt_tables.specs.Schema.{Column}
+use Rattle.lt_words.specs.SchemaText.{◌>>=◌, JsonFault, not_json, version_in, version_of_text}
 use Rattle.lt_schema_json.specs.Reading.{json_of, or_not_json}
 
 pub is_read : (t : List ℕ) (d : Data) → IsUtf8 t × (read t ≡ Some d) → json_of t ≡ Some d

@@ -7,10 +7,10 @@ use Rattle.serde_json.specs.View.{items_of, view}
 use Rattle.serde_json.specs.Written.{has_float, items_have_float}
 use Rattle.serde_json.specs.declared.value.Value.{Array, Value as Json}
 use Rattle.serde_json.proofs.Views.{view-Array}
-use Rattle.lt_model.specs.Kind.{FieldKinds, Kind, enumeration, field_kind, field_kinds_of, no_kinds, plain, structured}
-use Rattle.lt_model.specs.Schema.{Column, SchemaVersion}
-use Rattle.lt_model.specs.SchemaText.{column_data, field_items, items_from, kind_data, number_data, plain_data, plain_items, version_data}
-use Rattle.lt_model.specs.Value.{Fields, Value, bool_value, bytes_value, field_value, fields_of, int_value, no_fields, null_value, struct_value, text_value}
+use Rattle.lt_terms.specs.Kind.{FieldKinds, Kind, enumeration, field_kind, field_kinds_of, no_kinds, plain, structured}
+use Rattle.lt_tables.specs.Schema.{Column, SchemaVersion}
+use Rattle.lt_words.specs.SchemaText.{column_data, field_items, items_from, kind_data, number_data, plain_data, plain_items, version_data}
+use Rattle.lt_terms.specs.Value.{Fields, Value, bool_value, bytes_value, field_value, fields_of, int_value, no_fields, null_value, struct_value, text_value}
 use Rattle.lt_schema_json.specs.Writing.{field_data, item_data, key_data, list_data, name_data}
 
 same_items : (ds : List Data) → items_of ds ≡ items_from ds

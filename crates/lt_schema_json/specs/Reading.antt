@@ -6,12 +6,12 @@ use Rattle.serde_json.specs.Data.{Data}
 use Rattle.serde_json.specs.Read.{read}
 use Rattle.serde_json.specs.View.{view}
 use Rattle.serde_json.specs.declared.value.Value.{Value}
-use Rattle.lt_model.specs.Kind.{FieldKinds}
-use Rattle.lt_model.specs.Kind as kinds
-use Rattle.lt_model.specs.Query.{hex_digit}
-use Rattle.lt_model.specs.Value as model
-use Rattle.lt_model.specs.SchemaText.{JsonFault, as_list, as_number_up_to, as_text, defaults_in, kind_in, missing, not_json, unknown_member, wrong}
-use Rattle.lt_model.specs.declared.Field.{Field}
+use Rattle.lt_terms.specs.Kind.{FieldKinds}
+use Rattle.lt_terms.specs.Kind as kinds
+use Rattle.lt_tables.specs.Query.{hex_digit}
+use Rattle.lt_terms.specs.Value as model
+use Rattle.lt_words.specs.SchemaText.{JsonFault, as_list, as_number_up_to, as_text, defaults_in, kind_in, missing, not_json, unknown_member, wrong}
+use Rattle.lt_terms.specs.declared.Field.{Field}
 use Rattle.lt_core.specs.View.{view_settings}
 use Rattle.lt_core.specs.declared.kind.Kind.{Kind}
 use Rattle.lt_core.specs.declared.value.Value as code

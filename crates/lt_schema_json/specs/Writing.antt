@@ -2,10 +2,10 @@
 use Rattle.std.specs.Prelude.{List, pos, ℕ, ℤ}
 use Rattle.serde_json.specs.Data.{Data}
 use Rattle.serde_json.specs.Data as json
-use Rattle.lt_model.specs.Kind.{Kind}
-use Rattle.lt_model.specs.Schema.{KeyColumn}
-use Rattle.lt_model.specs.SchemaText.{items_from, key_kind_name, kind_data, number_data, plain_data, three, two}
-use Rattle.lt_model.specs.Value.{Value}
+use Rattle.lt_terms.specs.Kind.{Kind}
+use Rattle.lt_tables.specs.Schema.{KeyColumn}
+use Rattle.lt_words.specs.SchemaText.{items_from, key_kind_name, kind_data, number_data, plain_data, three, two}
+use Rattle.lt_terms.specs.Value.{Value}
 
 abbrev pub list_data : List Data → Data
 list_data ds = json.array (items_from ds)

@@ -1,6 +1,6 @@
 //! Schema versions as JSON texts: reading and writing them.
 //!
-//! A schema text is what `serde_json` reads as a `Value`, an object with the members that `lt_model` states. A text that is none
+//! A schema text is what `serde_json` reads as a `Value`, an object with the members that `lt_words` states. A text that is none
 //! has one fault, the first in the order of the format. What is written stands compactly, with the members of each object in byte
 //! order of their names, and reads back.
 //!
@@ -13,10 +13,7 @@ mod reading;
 mod refusal;
 mod writing;
 
-pub use lt_model::Field;
+pub use lt_terms::Field;
 pub use reading::read_version;
 pub use refusal::JsonRefusal;
 pub use writing::{value_json, write_version};
-
-#[cfg(test)]
-mod tests;

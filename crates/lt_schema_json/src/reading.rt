@@ -2,7 +2,7 @@
 
 ghost use Rattle.std.specs.Prelude.{◌≡◌, Err, IfErr, IfOk, IfSome, Ok};
 ghost use Rattle.serde_json.specs.View.{view};
-ghost use Rattle.lt_model.specs.SchemaText.{version_in, version_of_text};
+ghost use Rattle.lt_words.specs.SchemaText.{version_in, version_of_text};
 ghost use Rattle.lt_schema.specs.View.{view_version};
 ghost use Rattle.lt_schema_json.specs.Reading.{Gives, json_of, or_not_json, view_fault};
 
@@ -18,8 +18,8 @@ use crate::reading::column::columns_in;
 use crate::reading::key::key_at;
 use crate::reading::member::{array_at, large_at, members_of, no_other, text_at};
 use crate::refusal::JsonRefusal;
-use lt_model::Field;
 use lt_schema::SchemaVersion;
+use lt_terms::Field;
 use serde_json::Value as Json;
 use std::alloc::Global;
 
@@ -29,7 +29,8 @@ use std::alloc::Global;
 #[tactic(auto, using(crate::proofs::ReadTexts::read_in_steps))]
 pub fn read_version(alloc: Global, text: &[u8]) -> Result<SchemaVersion, JsonRefusal>
     ensures accepts { IfOk result (λ version. version_of_text text.now ≡ Ok (view_version version)) }
-    ensures refuses { IfErr result (λ refusal. IfSome (view_fault refusal) (λ fault. version_of_text text.now ≡ Err fault)) }
+    ensures refuses { IfErr result (λ refusal. IfSome (view_fault refusal)
+        (λ fault. version_of_text text.now ≡ Err fault)) }
 {
     let json = json_in(alloc, text)?;
     version_in(alloc, &json)

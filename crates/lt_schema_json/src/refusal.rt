@@ -4,7 +4,7 @@ ghost use Rattle.std.specs.Prelude.{◌≡◌};
 ghost use Rattle.lt_schema_json.specs.declared.refusal.JsonRefusal.TheVariants as refusals;
 
 use lt_core::{Memory, Text};
-use lt_model::Field;
+use lt_terms::Field;
 use std::error::Error;
 use std::fmt;
 

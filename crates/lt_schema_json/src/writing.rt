@@ -2,7 +2,7 @@
 
 ghost use Rattle.std.specs.Prelude.{◌≡◌, map, Ok, IfOk, IsTrue};
 ghost use Rattle.serde_json.specs.View.{view};
-ghost use Rattle.lt_model.specs.SchemaText.{column_data, is_spellable, key_kind_name, version_data, version_of_text, version_text};
+ghost use Rattle.lt_words.specs.SchemaText.{column_data, is_spellable, key_kind_name, version_data, version_of_text, version_text};
 ghost use Rattle.lt_schema.specs.View.{view_column, view_columns, view_key, view_key_column, view_version};
 ghost use Rattle.lt_schema_json.specs.Writing.{key_data, list_data};
 
@@ -19,7 +19,8 @@ use std::alloc::Global;
 /// Writes the text of a version, which reads back where the version can be spelled.
 pub fn write_version(alloc: Global, version: &SchemaVersion) -> Result<Blob, Memory>
     ensures text { IfOk result (λ text. text ≡ version_text (view_version version.now)) }
-    ensures reads_back { IfOk result (λ text. IsTrue (is_spellable (view_version version.now)) → version_of_text text ≡ Ok (view_version version.now)) }
+    ensures reads_back { IfOk result (λ text. IsTrue (is_spellable (view_version version.now))
+        → version_of_text text ≡ Ok (view_version version.now)) }
 {
     let json = version_json(alloc, version)?;
     Ok(List::from_vec(json.to_vec(alloc)?))

@@ -1,10 +1,11 @@
 -- The lines of compactions: a mode, a partition and a mode, and the words of a job.
 use Rattle.std.proofs.Common.{◌≡◌, ℕ, ◌<◌, Bool, true, false, List, [], ◌∷◌, ◌++◌, length, refl, sym, ap, append_assoc, ◌∙◌, arith, length-append, ne_eqb, subst}
 use Rattle.std.specs.Prelude.{None, Option, Some, codes, cond, if◌then◌else◌, option_and_then, option_map, ◌&&◌, ◌==◌}
-use Rattle.lt_model.specs.Conversion.{same_bytes}
-use Rattle.lt_model.specs.Script.{Command, Mode, count_word, do_compact, do_job_begin, do_job_drop, do_job_finish, do_job_step, id_words, job_words, large_word, major, minor, mode_words, no_words, one_number, small_word, with_mode, words}
-use Rattle.lt_model.specs.InMemory.{has_options}
-use Rattle.lt_model.specs.SchemaText.{all_of}
+use Rattle.lt_terms.specs.Conversion.{same_bytes}
+use Rattle.lt_tables.specs.Query.{Command, Mode, do_compact, do_job_begin, do_job_drop, do_job_finish, do_job_step, major, minor}
+use Rattle.lt_words.specs.Script.{count_word, id_words, job_words, large_word, mode_words, no_words, one_number, small_word, with_mode, words}
+use Rattle.lt_words.specs.Lines.{has_options}
+use Rattle.lt_words.specs.SchemaText.{all_of}
 use Rattle.lt_script.specs.Lines.{IsParted, NoSpace, command_read, part_and_mode, without_options}
 use Rattle.lt_script.proofs.LiteralLaws.{with_front}
 use Rattle.lt_script.proofs.ReadLaws.{no_name, one_read, pair, plain_map}

@@ -6,10 +6,11 @@ use Rattle.std.specs.Option.{option_map_or}
 use Rattle.std.specs.Str.{is_utf8}
 use Rattle.serde_json.specs.Read.{read}
 use Rattle.serde_json.proofs.OnLiterals.{serde_json_on_literals}
-use Rattle.lt_model.specs.Schema.{when}
-use Rattle.lt_model.specs.Query.{Literal}
-use Rattle.lt_model.specs.Script.{Command, bad_line, behind_words, command_in, count_word, do_deltas, do_flush, do_pump, do_reopen, do_retain, do_retire, do_schema, do_split, do_status, first_byte, large_word, line_of, literals_in, max_line, no_words, skipped, small_word, spells_command, split_words, table_word, two_words, words}
-use Rattle.lt_model.specs.InMemory.{has_options, is_built, line_read, only_built}
+use Rattle.lt_tables.specs.Schema.{when}
+use Rattle.lt_tables.specs.Query.{Literal}
+use Rattle.lt_tables.specs.Query.{Command, do_deltas, do_flush, do_pump, do_reopen, do_retain, do_retire, do_schema, do_split, do_status}
+use Rattle.lt_words.specs.Script.{bad_line, behind_words, command_in, count_word, first_byte, large_word, line_of, literals_in, max_line, no_words, skipped, small_word, spells_command, split_words, table_word, two_words, words}
+use Rattle.lt_words.specs.Lines.{has_options, is_built, line_read, only_built}
 use Rattle.lt_script.specs.Lines.{IsParted, NoSpace, command_read, kept_of, without_options}
 use Rattle.lt_script.proofs.ReadLaws.{no_name, one_read, pair, pair_plain, two_read}
 use Rattle.lt_script.proofs.WordLaws.{behind_all, behind_parted, count_one, large_one, one_piece, parted_longer, parted_words, small_one, some_pieces}

@@ -5,7 +5,7 @@ use Rattle.serde_json.specs.Data as json
 use Rattle.serde_json.specs.Find.{as_array}
 use Rattle.serde_json.specs.View.{items_view, view}
 use Rattle.serde_json.specs.declared.value.Value.{Value}
-use Rattle.lt_model.specs.SchemaText.{as_list, item_list}
+use Rattle.lt_words.specs.SchemaText.{as_list, item_list}
 
 pub list_of_items : (vs : List Value) → item_list (items_view vs) ≡ map view vs
 list_of_items [] = refl

@@ -1,7 +1,8 @@
 -- The lines of scans and pages, without options.
 use Rattle.std.proofs.Common.{◌≡◌, ℕ, ◌≤◌, true, false, List, [], ◌∷◌, ◌++◌, length, refl, sym, ap, ◌∙◌, subst, arith, lt-ltb}
 use Rattle.std.specs.Prelude.{None, Option, Some, codes, nat_lt, option_and_then, option_map}
-use Rattle.lt_model.specs.Script.{Command, behind_words, count_word, do_page, do_scan, large_word, options_in, page_words, plain_query, scan_words, small_word, table_word, words}
+use Rattle.lt_tables.specs.Query.{Command, do_page, do_scan}
+use Rattle.lt_words.specs.Script.{behind_words, count_word, large_word, options_in, page_words, plain_query, scan_words, small_word, table_word, words}
 use Rattle.lt_script.specs.Lines.{IsParted, NoSpace, asked, command_read, without_options}
 use Rattle.lt_script.proofs.ReadLaws.{none_if, none_map, none_then, plain_map}
 use Rattle.lt_script.proofs.WordLaws.{IsLast, behind_all, count_one, large_one, last_word, more, one, one_piece, parted_words}

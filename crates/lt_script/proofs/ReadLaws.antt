@@ -1,11 +1,12 @@
 -- What is read of a line's words: of one that is the last, of two, and of a line that may have options.
 use Rattle.std.proofs.Common.{◌≡◌, ℕ, Bool, true, false, List, ◌∷◌, refl, sym, ap, ◌∙◌}
 use Rattle.std.specs.Prelude.{None, Option, Some, cond, if◌then◌else◌, not, option_and_then, option_map}
-use Rattle.lt_model.specs.Conversion.{same_bytes}
-use Rattle.lt_model.specs.Schema.{when}
-use Rattle.lt_model.specs.Script.{Command, one_number, two_words, words}
-use Rattle.lt_model.specs.InMemory.{has_options}
-use Rattle.lt_laws.proofs.ConversionLemmas.{same_bytes-same}
+use Rattle.lt_terms.specs.Conversion.{same_bytes}
+use Rattle.lt_tables.specs.Schema.{when}
+use Rattle.lt_tables.specs.Query.{Command}
+use Rattle.lt_words.specs.Script.{one_number, two_words, words}
+use Rattle.lt_words.specs.Lines.{has_options}
+use Rattle.lt_lemmas.proofs.ConversionLemmas.{same_bytes-same}
 use Rattle.lt_script.specs.Lines.{IsParted, without_options}
 use Rattle.lt_script.proofs.WordLaws.{IsLast, IsOneWord, last_word, more, one, parted_words}
 

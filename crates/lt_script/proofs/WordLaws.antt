@@ -4,12 +4,12 @@ use Rattle.std.specs.Prelude.{IfNone, IfSome, MatchOption, None, Option, Some, c
 use Rattle.std.proofs.lemmas.Bool.{and_parts}
 use Rattle.std.proofs.lemmas.Fmt.{decimal_by_steps}
 use denote.Ref.{Bor}
-use Rattle.lt_model.specs.Conversion.{digits_worth, same_bytes}
-use Rattle.lt_model.specs.Reply.{spaced}
-use Rattle.lt_model.specs.Schema.{when}
-use Rattle.lt_model.specs.Script.{behind_word, behind_words, count_word, large_word, number_word, pieces, small_word, with_byte, words}
+use Rattle.lt_terms.specs.Conversion.{digits_worth, same_bytes}
+use Rattle.lt_words.specs.Reply.{spaced}
+use Rattle.lt_tables.specs.Schema.{when}
+use Rattle.lt_words.specs.Script.{behind_word, behind_words, count_word, large_word, number_word, pieces, small_word, with_byte, words}
 use Rattle.lt_script.specs.Lines.{IsParted, NoSpace}
-use Rattle.lt_laws.proofs.ConversionLemmas.{decimal_reads, same_bytes-same, same_bytes-self}
+use Rattle.lt_lemmas.proofs.ConversionLemmas.{decimal_reads, same_bytes-same, same_bytes-self}
 
 -- ---- words
 

@@ -1,7 +1,7 @@
 //! Which commands are answered today. All others are planned, and their lines are bad ones until they are built.
 
 ghost use Rattle.std.specs.Prelude.{◌≡◌};
-ghost use Rattle.lt_model.specs.InMemory.{asks_all, is_all_rows, is_built};
+ghost use Rattle.lt_words.specs.Lines.{asks_all, is_all_rows, is_built};
 ghost use Rattle.lt_command.specs.View.{view_command, view_query};
 ghost use Rattle.lt_pred.specs.View.{view_pred};
 

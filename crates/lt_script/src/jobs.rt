@@ -1,9 +1,9 @@
 //! The lines of compactions, at once and by a job.
 
 ghost use Rattle.std.specs.Prelude.{◌≡◌, ◌++◌, codes, option_map, IfOk};
-ghost use Rattle.lt_model.specs.Script.{id_words, large_word, mode_words, words};
-ghost use Rattle.lt_model.specs.SchemaText.{all_of};
-ghost use Rattle.lt_model.specs.Value.{rises_strictly};
+ghost use Rattle.lt_words.specs.Script.{id_words, large_word, mode_words, words};
+ghost use Rattle.lt_words.specs.SchemaText.{all_of};
+ghost use Rattle.lt_terms.specs.Value.{rises_strictly};
 ghost use Rattle.lt_command.specs.View.{view_command, view_mode};
 ghost use Rattle.lt_script.specs.Lines.{NoSpace, command_read, part_and_mode, view_part_mode};
 

@@ -1,7 +1,7 @@
 //! What a line says: nothing, a command, or something that is none.
 
 ghost use Rattle.std.specs.Prelude.{◌≡◌, IfOk};
-ghost use Rattle.lt_model.specs.InMemory.{line_read};
+ghost use Rattle.lt_words.specs.Lines.{line_read};
 ghost use Rattle.lt_script.specs.Lines.{view_line};
 
 use crate::built::is_built;

@@ -3,8 +3,8 @@
 ghost use Rattle.std.specs.Prelude.{◌≡◌, map, option_and_then, option_map, IfOk};
 ghost use Rattle.serde_json.specs.Read.{read};
 ghost use Rattle.serde_json.specs.View.{view};
-ghost use Rattle.lt_model.specs.Script.{literal_in, literals_in};
-ghost use Rattle.lt_model.specs.SchemaText.{as_list};
+ghost use Rattle.lt_words.specs.Script.{literal_in, literals_in};
+ghost use Rattle.lt_words.specs.SchemaText.{as_list};
 ghost use Rattle.lt_pred.specs.View.{view_literal, view_literals};
 
 use crate::words::copied;

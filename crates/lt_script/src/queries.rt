@@ -1,7 +1,7 @@
 //! The lines of queries, without options.
 
 ghost use Rattle.std.specs.Prelude.{◌≡◌, ◌++◌, codes, option_map, IfOk};
-ghost use Rattle.lt_model.specs.Script.{large_word, small_word, table_word};
+ghost use Rattle.lt_words.specs.Script.{large_word, small_word, table_word};
 ghost use Rattle.lt_command.specs.View.{view_command, view_query};
 ghost use Rattle.lt_script.specs.Lines.{asked, command_read};
 

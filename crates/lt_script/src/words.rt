@@ -1,7 +1,7 @@
 //! Words, which exactly one space parts: the first one, and what a word stands for.
 
 ghost use Rattle.std.specs.Prelude.{◌≡◌, IfOk, IfNone, IfSome};
-ghost use Rattle.lt_model.specs.Script.{count_word, large_word, small_word, table_word};
+ghost use Rattle.lt_words.specs.Script.{count_word, large_word, small_word, table_word};
 ghost use Rattle.lt_script.specs.Lines.{IsParted, NoSpace};
 
 use lt_core::{Memory, Text, TextRefusal};

@@ -3,8 +3,8 @@ use Rattle.std.proofs.Common.{List, [], ap, arith, drop, get_or, inl, inr, lengt
 use Rattle.std.specs.Prelude.{IsTrue}
 use Rattle.std.proofs.lemmas.Bool.{cases_lt}
 use Rattle.std.proofs.lemmas.List.{append-nil, drop_all, drop_more, get_or-drop, get_or_default, take-append-drop, take_all, take_more}
-use Rattle.lt_model.specs.declared.Extent.{Extent}
-use Rattle.lt_model.specs.Store.{apart, end_of, is_gap}
+use Rattle.lt_terms.specs.declared.Extent.{Extent}
+use Rattle.lt_world.specs.Extents.{apart, end_of, is_gap}
 use Rattle.lt_space.specs.declared.gaps.Passed.{Passed}
 use Rattle.lt_space.specs.Order.{AreInOrder, end_after}
 use Rattle.lt_space.specs.Gaps.{HasNoGap, HasPassed, IsFirstGap, IsLongestGap, IsReached}

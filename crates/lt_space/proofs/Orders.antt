@@ -4,8 +4,8 @@ use Rattle.std.specs.Prelude.{IsTrue, nat_le, ◌&&◌}
 use Rattle.std.specs.List.{list_all}
 use Rattle.std.proofs.lemmas.Bool.{and_from, and_parts, le-leb, leb-true, or_cases, or_left, or_right}
 use Rattle.std.proofs.lemmas.List.Folds.{list_all-append}
-use Rattle.lt_model.specs.declared.Extent.{Extent}
-use Rattle.lt_model.specs.Store.{apart, are_apart, end_of, is_gap}
+use Rattle.lt_terms.specs.declared.Extent.{Extent}
+use Rattle.lt_world.specs.Extents.{apart, are_apart, end_of, is_gap}
 use Rattle.lt_space.specs.Order.{AreInOrder, end_after}
 
 -- ---- parts of what is in order

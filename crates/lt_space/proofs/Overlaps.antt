@@ -5,9 +5,9 @@ use Rattle.std.specs.List.{list_all}
 use Rattle.std.proofs.lemmas.Bool.{and_cases, and_left, and_right, both_ways, cases_lt, cases_order, and_from, le-leb, lt-leb, ltb-false, ltb-true, or_cases, or_from, or_left, or_parts, or_right, true_from_ne_false, true≢false}
 use Rattle.std.proofs.lemmas.List.{get_or-take, get_or_default, take_more}
 use Rattle.std.proofs.lemmas.Option.{get_or_from_slice_get, slice_get-get_or, slice_get_within}
-use Rattle.lt_model.specs.declared.Extent.{Extent}
-use Rattle.lt_model.specs.Store.{apart, are_apart, end_of}
-use Rattle.lt_model.specs.Run.{IsMisplaced, MeetsAnother}
+use Rattle.lt_terms.specs.declared.Extent.{Extent}
+use Rattle.lt_world.specs.Extents.{apart, are_apart, end_of}
+use Rattle.lt_world.specs.Extents.{IsMisplaced, MeetsAnother}
 use Rattle.lt_space.specs.Extents.{IsOverlap}
 use Rattle.lt_space.specs.Order.{AreInOrder, AreSorted, end_after}
 use Rattle.lt_space.proofs.Orders.{StandsAt, end-push, order_at, order_joined, order_pair}

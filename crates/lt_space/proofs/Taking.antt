@@ -6,8 +6,8 @@ use Rattle.std.proofs.lemmas.Bool.{and_from, and_parts, cases_lt, cases_order}
 use Rattle.std.proofs.lemmas.List.{append_assoc, drop_at, drop_more, get_or_at, length-take-le, take-append-drop, take_at}
 use Rattle.std.proofs.lemmas.List.Edits.{length-insert}
 use Rattle.std.proofs.lemmas.List.Folds.{list_all-append}
-use Rattle.lt_model.specs.declared.Extent.{Extent}
-use Rattle.lt_model.specs.Store.{apart, end_of, is_gap}
+use Rattle.lt_terms.specs.declared.Extent.{Extent}
+use Rattle.lt_world.specs.Extents.{apart, end_of, is_gap}
 use Rattle.lt_space.specs.declared.gaps.Passed.{Passed}
 use Rattle.lt_space.specs.Extents.{Extents, Takes}
 use Rattle.lt_space.specs.Order.{AreInOrder, end_after}

@@ -1,8 +1,8 @@
 -- What of a store file is taken, and why an extent is refused.
 use Rattle.std.specs.Prelude.{IsTrue, List, ⊤, ℕ, ◌++◌, ◌∷◌, ◌≡◌, ◌≤◌}
-use Rattle.lt_model.specs.declared.Extent.{Extent}
-use Rattle.lt_model.specs.Store.{IsFull, are_apart}
-use Rattle.lt_model.specs.Run.{IsMisplaced}
+use Rattle.lt_terms.specs.declared.Extent.{Extent}
+use Rattle.lt_world.specs.Extents.{IsFull, are_apart}
+use Rattle.lt_world.specs.Extents.{IsMisplaced}
 use Rattle.lt_space.specs.declared.refusal.SpaceRefusal.{SpaceRefusal}
 use Rattle.lt_space.specs.declared.refusal.SpaceRefusal.TheVariants as refusals
 

@@ -1,7 +1,7 @@
 -- The gaps between extents that stand in order of their places.
 use Rattle.std.specs.Prelude.{IsTrue, List, length, take, ℕ, ◌<◌, ◌≡◌, ◌≤◌}
-use Rattle.lt_model.specs.declared.Extent.{Extent}
-use Rattle.lt_model.specs.Store.{is_gap}
+use Rattle.lt_terms.specs.declared.Extent.{Extent}
+use Rattle.lt_world.specs.Extents.{is_gap}
 use Rattle.lt_space.specs.Order.{AreInOrder, end_after}
 use Rattle.lt_space.specs.declared.gaps.Passed.{Passed}
 

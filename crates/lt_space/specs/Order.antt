@@ -1,7 +1,7 @@
 -- Extents in order of their places.
 use Rattle.std.specs.Prelude.{Bool, List, [], false, length, nat_lt, slice_index_or, ⊤, ℕ, ◌&&◌, ◌<◌, ◌==◌, ◌||◌, ◌∷◌, ◌≡◌, ◌≤◌}
-use Rattle.lt_model.specs.declared.Extent.{Extent}
-use Rattle.lt_model.specs.Store.{end_of}
+use Rattle.lt_terms.specs.declared.Extent.{Extent}
+use Rattle.lt_world.specs.Extents.{end_of}
 
 -- by place, and those at one place by length, so that one of no bytes stands before what begins there
 abbrev pub stands_before : Extent → Extent → Bool

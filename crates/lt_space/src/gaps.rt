@@ -1,13 +1,13 @@
 //! The gaps between extents that stand in order of their places. A search takes time linear in the extents that it passes.
 
 ghost use Rattle.std.specs.Prelude.{◌≡◌, ◌+◌, ◌-◌, ◌<◌, ◌≤◌, ◌^◌, ℕ, List, drop, max, IfSome, IfNone};
-ghost use Rattle.lt_model.specs.declared.Extent.{Extent};
-ghost use Rattle.lt_model.specs.Store.{end_of};
+ghost use Rattle.lt_terms.specs.declared.Extent.{Extent};
+ghost use Rattle.lt_world.specs.Extents.{end_of};
 ghost use Rattle.lt_space.specs.Order.{AreInOrder};
 ghost use Rattle.lt_space.specs.Gaps.{HasPassed, IsFirstGap, IsLongestGap, HasNoGap};
 
 use crate::FIRST;
-use lt_model::Extent;
+use lt_terms::Extent;
 
 /// The first extents, as a search has passed them: how many, where the last of them ends, and the longest gap before that.
 #[derive(Clone, Copy, Debug)]
@@ -39,7 +39,12 @@ impl Passed {
         requires count { self.count + 1 < 2 ^ 64 }
         requires order { self.end ≤ extent.now.place }
         requires end { end_of extent.now < 2 ^ 64 }
-        ensures { result ≡ record { count = self.count + 1; end = end_of extent.now; longest = max self.longest (extent.now.place - self.end) } }
+        ensures { result ≡ record {
+          count = self.count + 1;
+          end = end_of extent.now;
+          longest = max self.longest
+              (extent.now.place - self.end);
+        } }
     {
         Passed {
             count: self.count + 1,

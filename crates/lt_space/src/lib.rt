@@ -8,10 +8,8 @@ mod misplaced;
 mod order;
 mod refusal;
 mod space;
-#[cfg(test)]
-mod tests;
 
-pub use lt_model::Extent;
+pub use lt_terms::Extent;
 pub use refusal::SpaceRefusal;
 pub use space::Space;
 

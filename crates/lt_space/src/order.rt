@@ -1,10 +1,10 @@
 //! The order of extents: by place, and those at one place by length. Finding one takes time logarithmic in the extents.
 
 ghost use Rattle.std.specs.Prelude.{◌≡◌, ◌<◌, Contains, length, slice_index_or};
-ghost use Rattle.lt_model.specs.declared.Extent.{Extent};
+ghost use Rattle.lt_terms.specs.declared.Extent.{Extent};
 ghost use Rattle.lt_space.specs.Order.{AreSorted, stands_before};
 
-use lt_model::Extent;
+use lt_terms::Extent;
 
 /// Whether an extent stands before another.
 fn stands_before(a: &Extent, b: &Extent) -> bool

@@ -7,14 +7,14 @@
 
 ghost use Rattle.std.specs.Prelude.{◌≡◌, ◌<◌, IsTrue, IfOk, IfErr, OnOk, OnErr, Contains};
 ghost use Rattle.std.specs.List.Sorted.{IsPermutation};
-ghost use Rattle.lt_model.specs.Store.{are_apart, IsLowestGap};
+ghost use Rattle.lt_world.specs.Extents.{are_apart, IsLowestGap};
 ghost use Rattle.lt_space.specs.Extents.{AreApart, Extents, RefusesAll, RefusesOne, Takes};
 
 use crate::gaps::{NONE, Passed, longest_gap, lowest_gap};
 use crate::misplaced::first_misplaced;
 use crate::order::place_of;
 use crate::refusal::SpaceRefusal;
-use lt_model::Extent;
+use lt_terms::Extent;
 use std::alloc::Global;
 use std::marker::Model;
 

@@ -3,22 +3,27 @@ use Rattle.std.proofs.Common.{Bool, List, [], ap, arith, cond, eqb-true, false, 
 use Rattle.std.specs.Prelude.{Contains, IsTrue, Option, Some, filter, map, nat_lt, not, zip, ◌&&◌, ◌==◌, ◌⊎◌}
 use Rattle.std.specs.List.{AllByRecursion}
 use Rattle.std.proofs.lemmas.Bool.{and_from, and_parts}
-use Rattle.lt_model.specs.Key.{Range, below, in_range, is_below_high, lies_in, ranges_from, same_key}
-use Rattle.lt_model.specs.Log.{Change, change_key, changes_of}
-use Rattle.lt_model.specs.Fair.{Feed}
-use Rattle.lt_model.specs.Machine.{Answer, Does, Job, State, cat_of, compacted, flush_id, named, output_id, parts_replaced, ranges_of, replaced, resume_after, split_key, with_id, with_resume}
-use Rattle.lt_model.specs.Outside.{AreAbove, BelongsTo, Memory, MemoryAbove, name_of, put_change}
-use Rattle.lt_model.specs.Reply.{Refusal}
-use Rattle.lt_model.specs.Run.{AfterFault, TakesSome}
-use Rattle.lt_model.specs.Schema.{Catalogue, Table, change_at}
-use Rattle.lt_model.specs.Script.{Command, do_compact, do_deltas, do_flush, do_job_begin, do_job_drop, do_job_finish, do_job_step, do_page, do_pump, do_reopen, do_retain, do_retire, do_scan, do_schema, do_split, do_status}
-use Rattle.lt_model.specs.Sound.{PendingOfAll, passed}
-use Rattle.lt_model.specs.Store.{Durable, Part, part_ranges}
+use Rattle.lt_terms.specs.Key.{Range, below, in_range, is_below_high, lies_in, ranges_from, same_key}
+use Rattle.lt_terms.specs.Log.{Change, change_key, changes_of}
+use Rattle.lt_world.specs.Feed.{Feed}
+use Rattle.lt_machine.specs.Machine.{Answer, Does, Job, State, cat_of, compacted, flush_id, named, output_id, parts_replaced, ranges_of, replaced, resume_after, split_key, with_id, with_resume}
+use Rattle.lt_tables.specs.Pump.{name_of, put_change}
+use Rattle.lt_machine.specs.Outside.{AreAbove, BelongsTo, MemoryAbove}
+use Rattle.lt_machine.specs.Sound.{Memory}
+use Rattle.lt_words.specs.Reply.{Refusal}
+use Rattle.lt_machine.specs.Run.{AfterFault, TakesSome}
+use Rattle.lt_tables.specs.Schema.{Catalogue, Table, change_at}
+use Rattle.lt_tables.specs.Query.{Command, do_compact, do_deltas, do_flush, do_job_begin, do_job_drop, do_job_finish, do_job_step, do_page, do_pump, do_reopen, do_retain, do_retire, do_scan, do_schema, do_split, do_status}
+use Rattle.lt_machine.specs.Sound.{PendingOfAll, passed}
+use Rattle.lt_tables.specs.Pump.{Part}
+use Rattle.lt_storage.specs.Store.{Durable, part_ranges}
 use Rattle.lt_laws.proofs.SplitLaws.{first_stays}
 use Rattle.lt_laws.proofs.CompactedShelf.{lows_replaced}
-use Rattle.lt_laws.proofs.ListFacts.{all_contained, all_map, in_map}
+use Rattle.lt_codecs.proofs.ListFacts.{all_map}
+use Rattle.lt_lemmas.proofs.ListFacts.{all_contained}
+use Rattle.lt_laws.proofs.ListFacts.{in_map}
 use Rattle.lt_laws.proofs.PartsChanged.{ranges_changed}
-use Rattle.lt_laws.proofs.PointLaws.{same}
+use Rattle.lt_lemmas.proofs.PointLaws.{same}
 use Rattle.lt_laws.proofs.SoundLaws.{filter-all}
 use Rattle.lt_pump.specs.Given.{all_given, given}
 use Rattle.lt_pump.proofs.GivenLaws.{all_put}

@@ -2,14 +2,15 @@
 use Rattle.std.proofs.Common.{List, ap, inl, inr, refl, subst, sym, ℕ, ◌∙◌, ◌≡◌}
 use Rattle.std.specs.Prelude.{IsTrue, None, Option, ◌⊎◌}
 use Rattle.std.proofs.lemmas.Bool.{and_from}
-use Rattle.lt_model.specs.Fair.{Feed}
-use Rattle.lt_model.specs.Log.{Change, changes_of}
-use Rattle.lt_model.specs.Machine.{Answer, Does, State, Step, StepBy, refused, ranges_of, split_key}
-use Rattle.lt_model.specs.Outside.{BelongsTo, Memory, StaysBut}
-use Rattle.lt_model.specs.Reply.{Refusal}
-use Rattle.lt_model.specs.Run.{AfterFault, TakesSome}
-use Rattle.lt_model.specs.Script.{Command, do_compact, do_deltas, do_flush, do_job_begin, do_job_drop, do_job_finish, do_job_step, do_page, do_pump, do_reopen, do_retain, do_retire, do_scan, do_schema, do_split, do_status}
-use Rattle.lt_model.specs.Sound.{FailedIsSound, IsGood, source_of}
+use Rattle.lt_world.specs.Feed.{Feed}
+use Rattle.lt_terms.specs.Log.{Change, changes_of}
+use Rattle.lt_machine.specs.Machine.{Answer, Does, State, Step, StepBy, refused, ranges_of, split_key}
+use Rattle.lt_machine.specs.Outside.{BelongsTo, StaysBut}
+use Rattle.lt_machine.specs.Sound.{Memory}
+use Rattle.lt_words.specs.Reply.{Refusal}
+use Rattle.lt_machine.specs.Run.{AfterFault, TakesSome}
+use Rattle.lt_tables.specs.Query.{Command, do_compact, do_deltas, do_flush, do_job_begin, do_job_drop, do_job_finish, do_job_step, do_page, do_pump, do_reopen, do_retain, do_retire, do_scan, do_schema, do_split, do_status}
+use Rattle.lt_machine.specs.Sound.{FailedIsSound, IsGood, source_of}
 use Rattle.lt_laws.proofs.AllSteps.{step_keeps}
 use Rattle.lt_laws.proofs.FaultLaws.{fault_keeps}
 use Rattle.lt_pump.specs.Given.{all_given}

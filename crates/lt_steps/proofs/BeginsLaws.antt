@@ -4,18 +4,19 @@ use Rattle.std.specs.Prelude.{Contains, IsTrue, None, Option, Some, is_some, map
 use Rattle.std.specs.List.{list_all}
 use Rattle.std.proofs.lemmas.Bool.{and_from, and_parts, eqb-false}
 use Rattle.std.proofs.lemmas.List.{length-append, length-map}
-use Rattle.lt_model.specs.Key.{Range, all_keys, below, max_key, ranges_from, rise}
-use Rattle.lt_model.specs.Log.{Header, Item, fits_high, is_header}
-use Rattle.lt_model.specs.Fair.{Feed, HasHeader}
-use Rattle.lt_model.specs.Laws.{HeadersFrom}
-use Rattle.lt_model.specs.Machine.{fresh, opened}
-use Rattle.lt_model.specs.Run.{AreHeaders, count_mismatch}
-use Rattle.lt_model.specs.Schema.{nothing_yet}
-use Rattle.lt_model.specs.Sound.{AreTiling, IsGood, SoundPart, SoundPartOf, SoundPoints, low_bounds}
-use Rattle.lt_model.specs.Store.{IsLawfulPart, Stream, is_limit, is_stream_entry}
-use Rattle.lt_model.specs.Version.{merge}
+use Rattle.lt_terms.specs.Key.{Range, all_keys, below, max_key, ranges_from, rise}
+use Rattle.lt_terms.specs.Log.{Header, Item, fits_high, is_header}
+use Rattle.lt_world.specs.Feed.{Feed}
+use Rattle.lt_tables.specs.Fair.{HasHeader}
+use Rattle.lt_machine.specs.Laws.{HeadersFrom}
+use Rattle.lt_machine.specs.Machine.{fresh, opened}
+use Rattle.lt_tables.specs.Pump.{AreHeaders, count_mismatch}
+use Rattle.lt_tables.specs.Schema.{nothing_yet}
+use Rattle.lt_machine.specs.Sound.{AreTiling, IsGood, SoundPart, SoundPartOf, SoundPoints, low_bounds}
+use Rattle.lt_storage.specs.Store.{IsLawfulPart, Stream, is_limit, is_stream_entry}
+use Rattle.lt_tables.specs.Version.{merge}
 use Rattle.lt_laws.proofs.FrontStands.{fronts_stand}
-use Rattle.lt_laws.proofs.ListFacts.{all_from}
+use Rattle.lt_lemmas.proofs.ListFacts.{all_from}
 use Rattle.lt_laws.proofs.SoundLaws.{opening_is_good}
 use Rattle.lt_pump.proofs.AttachLaws.{bound_more}
 use Rattle.lt_steps.specs.Memory.{MemoryBegins}

@@ -4,21 +4,23 @@ use Rattle.std.specs.Prelude.{None, Option, Some, filter, flat_map, if◌then◌
 use Rattle.std.specs.List.{AllByRecursion, list_any}
 use Rattle.std.proofs.lemmas.Bool.{false≢true}
 use Rattle.std.proofs.lemmas.List.Elements.{filter-append}
-use Rattle.lt_model.specs.Fair.{Feed}
-use Rattle.lt_model.specs.Key.{Range, lies_in}
-use Rattle.lt_model.specs.Log.{Change}
-use Rattle.lt_model.specs.Machine.{Answer, Does, Job, State, cat_of, compacted, flush_id, flushed_lists, is_listed, job_output, on_shelf, output_id, part_job, parts_replaced, pending_of, ranges_of, replaced, with_delta}
-use Rattle.lt_model.specs.Outside.{commit_lengths, new_deltas, writes_bundles}
-use Rattle.lt_model.specs.Schema.{when}
-use Rattle.lt_model.specs.Script.{Command, Mode, do_compact, do_flush, do_job_finish, do_retain, do_retire, do_schema, do_split}
-use Rattle.lt_model.specs.Sound.{HasPart, source_of}
-use Rattle.lt_model.specs.Store.{Delta, Durable, Part, bundle_lengths, index_length, manifest_length}
+use Rattle.lt_world.specs.Feed.{Feed}
+use Rattle.lt_terms.specs.Key.{Range, lies_in}
+use Rattle.lt_terms.specs.Log.{Change}
+use Rattle.lt_machine.specs.Machine.{Answer, Does, Job, State, cat_of, compacted, flush_id, flushed_lists, is_listed, job_output, on_shelf, output_id, part_job, parts_replaced, pending_of, ranges_of, replaced, with_delta}
+use Rattle.lt_machine.specs.Outside.{commit_lengths, new_deltas, writes_bundles}
+use Rattle.lt_tables.specs.Schema.{when}
+use Rattle.lt_tables.specs.Query.{Command, Mode, do_compact, do_flush, do_job_finish, do_retain, do_retire, do_schema, do_split}
+use Rattle.lt_machine.specs.Sound.{HasPart, source_of}
+use Rattle.lt_tables.specs.Pump.{Part}
+use Rattle.lt_storage.specs.Store.{Delta, Durable, bundle_lengths, index_length, manifest_length}
 use Rattle.lt_laws.proofs.DurableFacts.{shelf_below}
 use Rattle.lt_laws.proofs.JobLaws.{any_from, as_many, part_job_is}
-use Rattle.lt_laws.proofs.ListFacts.{all_filter, contains_rest}
+use Rattle.lt_lemmas.proofs.ListFacts.{all_filter}
+use Rattle.lt_laws.proofs.ListFacts.{contains_rest}
 use Rattle.lt_laws.proofs.PartsChanged.{any_there}
 use Rattle.lt_laws.proofs.ReadLaws.{or_left, or_right}
-use Rattle.lt_laws.proofs.SoundLaws.{pick}
+use Rattle.lt_lemmas.proofs.SoundLaws.{pick}
 use Rattle.lt_laws.proofs.SplitLaws.{lies_itself}
 use Rattle.lt_steps.specs.Rooms.{CommitLengths, flush_delta, job_delta}
 

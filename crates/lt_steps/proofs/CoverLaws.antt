@@ -3,24 +3,26 @@ use Rattle.std.proofs.Common.{Bool, List, [], ap, cond, false, inl, inr, refl, s
 use Rattle.std.specs.Prelude.{IfSome, IsTrue, None, Option, Some, not, ◌&&◌, ◌==◌, ◌||◌}
 use Rattle.std.specs.List.{AllByRecursion, list_any}
 use Rattle.std.proofs.lemmas.Bool.{and_from, and_parts, false≢true, or_cases}
-use Rattle.lt_model.specs.Claims.{Claim, whole_claims}
-use Rattle.lt_model.specs.Fair.{Feed}
-use Rattle.lt_model.specs.Key.{Range, below, common, in_range, is_below_high, is_high_within, lies_in}
-use Rattle.lt_model.specs.Log.{Change}
-use Rattle.lt_model.specs.Machine.{Answer, Does, Job, State, StepBy, flush_id, job_after, ranges_of, refused, resume_after, split_key, with_id, with_resume}
-use Rattle.lt_model.specs.Reply.{Refusal}
-use Rattle.lt_model.specs.Run.{AfterFault}
-use Rattle.lt_model.specs.Script.{Command, do_compact, do_deltas, do_flush, do_job_begin, do_job_drop, do_job_finish, do_job_step, do_page, do_pump, do_reopen, do_retain, do_retire, do_scan, do_schema, do_split, do_status}
-use Rattle.lt_model.specs.Sound.{HasPart}
-use Rattle.lt_model.specs.Store.{Durable, Part, part_ranges}
+use Rattle.lt_machine.specs.Claims.{Claim, whole_claims}
+use Rattle.lt_world.specs.Feed.{Feed}
+use Rattle.lt_terms.specs.Key.{Range, below, common, in_range, is_below_high, is_high_within, lies_in}
+use Rattle.lt_terms.specs.Log.{Change}
+use Rattle.lt_machine.specs.Machine.{Answer, Does, Job, State, StepBy, flush_id, job_after, ranges_of, refused, resume_after, split_key, with_id, with_resume}
+use Rattle.lt_words.specs.Reply.{Refusal}
+use Rattle.lt_machine.specs.Run.{AfterFault}
+use Rattle.lt_tables.specs.Query.{Command, do_compact, do_deltas, do_flush, do_job_begin, do_job_drop, do_job_finish, do_job_step, do_page, do_pump, do_reopen, do_retain, do_retire, do_scan, do_schema, do_split, do_status}
+use Rattle.lt_machine.specs.Sound.{HasPart}
+use Rattle.lt_tables.specs.Pump.{Part}
+use Rattle.lt_storage.specs.Store.{Durable, part_ranges}
 use Rattle.lt_laws.proofs.CompactLaws.{no_job}
-use Rattle.lt_laws.proofs.ClipLaws.{in-common}
-use Rattle.lt_laws.proofs.ListFacts.{all_map}
+use Rattle.lt_lemmas.proofs.ClipLaws.{in-common}
+use Rattle.lt_codecs.proofs.ListFacts.{all_map}
 use Rattle.lt_laws.proofs.PartsChanged.{ranges_changed}
-use Rattle.lt_laws.proofs.PointLaws.{below_trans}
+use Rattle.lt_lemmas.proofs.PointLaws.{below_trans}
 use Rattle.lt_laws.proofs.ReadLaws.{or_left, or_right}
-use Rattle.lt_laws.proofs.SoundLaws.{pick}
-use Rattle.lt_laws.proofs.SplitLaws.{first_stays, meets_some}
+use Rattle.lt_lemmas.proofs.SoundLaws.{pick}
+use Rattle.lt_lemmas.proofs.SplitLaws.{meets_some}
+use Rattle.lt_laws.proofs.SplitLaws.{first_stays}
 use Rattle.lt_laws.proofs.StepLaws.{unrefused}
 use Rattle.lt_steps.proofs.CommitLaws.{has_part}
 use Rattle.lt_steps.proofs.JobKept.{same_job}

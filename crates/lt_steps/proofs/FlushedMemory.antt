@@ -2,16 +2,18 @@
 use Rattle.std.proofs.Common.{List, [], ap, ap₂, length, refl, subst, suc, sym, zero, ℕ, ◌∙◌, ◌∷◌, ◌≡◌}
 use Rattle.std.specs.Prelude.{Contains, IsTrue, None, Option, Some, filter, map, nat_lt, slice_get, unwrap_or}
 use Rattle.std.specs.List.{AllByRecursion}
-use Rattle.lt_model.specs.Fair.{Feed}
-use Rattle.lt_model.specs.Log.{Change}
-use Rattle.lt_model.specs.Machine.{Answer, Does, State, Step, StepBy, cat_of, flush_id, flushed_lists, not_empty, pending_of, refused, seen_pending, table_numbers, with_delta}
-use Rattle.lt_model.specs.Outside.{BelongsTo, Memory, memory_versions, name_of}
-use Rattle.lt_model.specs.Reply.{Refusal}
-use Rattle.lt_model.specs.Row.{is_in_time}
-use Rattle.lt_model.specs.Schema.{Catalogue, change_at, when}
-use Rattle.lt_model.specs.Script.{do_flush}
-use Rattle.lt_model.specs.Sound.{source_of}
-use Rattle.lt_model.specs.Version.{RowVersion}
+use Rattle.lt_world.specs.Feed.{Feed}
+use Rattle.lt_terms.specs.Log.{Change}
+use Rattle.lt_machine.specs.Machine.{Answer, Does, State, Step, StepBy, cat_of, flush_id, flushed_lists, not_empty, pending_of, refused, seen_pending, table_numbers, with_delta}
+use Rattle.lt_tables.specs.Pump.{name_of}
+use Rattle.lt_machine.specs.Outside.{BelongsTo, memory_versions}
+use Rattle.lt_machine.specs.Sound.{Memory}
+use Rattle.lt_words.specs.Reply.{Refusal}
+use Rattle.lt_tables.specs.Row.{is_in_time}
+use Rattle.lt_tables.specs.Schema.{Catalogue, change_at, when}
+use Rattle.lt_tables.specs.Query.{do_flush}
+use Rattle.lt_machine.specs.Sound.{source_of}
+use Rattle.lt_tables.specs.Version.{RowVersion}
 use Rattle.lt_laws.proofs.MemoryLaws.{memory_seen}
 use Rattle.lt_laws.proofs.DurableFacts.{got_is_held}
 use Rattle.lt_laws.proofs.FlushLaws.{flush_keeps}

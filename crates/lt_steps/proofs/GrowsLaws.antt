@@ -2,14 +2,15 @@
 use Rattle.std.proofs.Common.{List, sym, ◌∙◌}
 use Rattle.std.specs.Prelude.{Contains}
 use Rattle.std.specs.List.{AllByRecursion}
-use Rattle.lt_model.specs.Log.{Change}
-use Rattle.lt_model.specs.Machine.{cat_of}
-use Rattle.lt_model.specs.Schema.{as_it_was}
-use Rattle.lt_model.specs.Sound.{source_of}
+use Rattle.lt_terms.specs.Log.{Change}
+use Rattle.lt_machine.specs.Machine.{cat_of}
+use Rattle.lt_tables.specs.Schema.{as_it_was}
+use Rattle.lt_machine.specs.Sound.{source_of}
 use Rattle.lt_codecs.proofs.LogLaws.{frames_prefix_free}
 use Rattle.lt_laws.proofs.FrontLaws.{fronts_stay}
 use Rattle.lt_laws.proofs.FrontStands.{fronts_grow}
-use Rattle.lt_laws.proofs.ListFacts.{all_at, all_map}
+use Rattle.lt_codecs.proofs.ListFacts.{all_map}
+use Rattle.lt_laws.proofs.ListFacts.{all_at}
 use Rattle.lt_laws.proofs.SoundLaws.{good_grows, grows-same, longer-by, source-more}
 use Rattle.lt_steps.specs.Memory.{MemoryGrows}
 

@@ -3,16 +3,18 @@ use Rattle.std.proofs.Common.{List, [], ap, append-nil, append_assoc, false, inl
 use Rattle.std.specs.Prelude.{IfSome, IsSome, IsTrue, None, Option, Some, is_some, length, nat_le, unwrap_or, ◌⊎◌}
 use Rattle.std.specs.Option.{option_map_or}
 use Rattle.std.proofs.lemmas.Bool.{and_from, and_parts, false≢true, or_cases}
-use Rattle.lt_model.specs.declared.Extent.{Extent}
-use Rattle.lt_model.specs.Fair.{Feed}
-use Rattle.lt_model.specs.Log.{Change, Header, Item}
-use Rattle.lt_model.specs.Machine.{Answer, Does, Job, State, Step, StepBy, is_broken, is_reopen, is_write, refused}
-use Rattle.lt_model.specs.Outside.{BelongsTo, HasRoot, HoldsEither, LeavesSession, MadeStand, StandsOn, is_commit, live_extents}
-use Rattle.lt_model.specs.Reply.{Refusal, out_of_memory}
-use Rattle.lt_model.specs.Run.{AfterFault, WouldLeave}
-use Rattle.lt_model.specs.Script.{Command, do_compact, do_deltas, do_flush, do_job_begin, do_job_drop, do_job_finish, do_job_step, do_page, do_pump, do_reopen, do_retain, do_retire, do_scan, do_schema, do_split, do_status}
-use Rattle.lt_model.specs.Sound.{FailedIsSound, IsGood, IsSound, IsSoundFor, LeavesPart, Session, source_of}
-use Rattle.lt_model.specs.Store.{Durable, HasPlaced, Holds, Placing, are_within, end_of, extents_of}
+use Rattle.lt_terms.specs.declared.Extent.{Extent}
+use Rattle.lt_world.specs.Feed.{Feed}
+use Rattle.lt_terms.specs.Log.{Change, Header, Item}
+use Rattle.lt_machine.specs.Machine.{Answer, Does, Job, State, Step, StepBy, is_broken, is_reopen, is_write, refused}
+use Rattle.lt_world.specs.Slots.{HasRoot}
+use Rattle.lt_machine.specs.Outside.{BelongsTo, HoldsEither, LeavesSession, MadeStand, StandsOn, is_commit, live_extents}
+use Rattle.lt_words.specs.Reply.{Refusal, out_of_memory}
+use Rattle.lt_machine.specs.Run.{AfterFault, WouldLeave}
+use Rattle.lt_tables.specs.Query.{Command, do_compact, do_deltas, do_flush, do_job_begin, do_job_drop, do_job_finish, do_job_step, do_page, do_pump, do_reopen, do_retain, do_retire, do_scan, do_schema, do_split, do_status}
+use Rattle.lt_machine.specs.Sound.{FailedIsSound, IsGood, IsSound, IsSoundFor, LeavesPart, Session, source_of}
+use Rattle.lt_world.specs.Extents.{end_of}
+use Rattle.lt_storage.specs.Store.{Durable, HasPlaced, Holds, Placing, are_within, extents_of}
 use Rattle.lt_laws.proofs.AllSteps.{step_keeps}
 use Rattle.lt_laws.proofs.FrontStands.{sound_grows}
 use Rattle.lt_steps.proofs.JobKept.{job_stays}

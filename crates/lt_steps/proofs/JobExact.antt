@@ -3,15 +3,15 @@ use Rattle.std.proofs.Common.{List, [], ap, ap₂, false, length, refl, subst, s
 use Rattle.std.specs.Prelude.{None, Option, Some, map, take}
 use Rattle.std.proofs.lemmas.Bool.{false≢true}
 use Rattle.std.proofs.lemmas.List.{length-map, map-append}
-use Rattle.lt_model.specs.declared.Extent.{Extent}
-use Rattle.lt_model.specs.Fair.{Feed}
-use Rattle.lt_model.specs.Layout.{Leaf}
-use Rattle.lt_model.specs.Log.{Change}
-use Rattle.lt_model.specs.Machine.{Answer, Does, Job, State, job_after}
-use Rattle.lt_model.specs.Outside.{AreMade, bundles_made, bytes_of_bundle, job_bundles, next_bundles}
-use Rattle.lt_model.specs.Script.{Command, do_compact, do_deltas, do_flush, do_job_begin, do_job_drop, do_job_finish, do_job_step, do_page, do_pump, do_reopen, do_retain, do_retire, do_scan, do_schema, do_split, do_status}
-use Rattle.lt_model.specs.Store.{Delta}
-use Rattle.lt_model.specs.Version.{RowVersion}
+use Rattle.lt_terms.specs.declared.Extent.{Extent}
+use Rattle.lt_world.specs.Feed.{Feed}
+use Rattle.lt_terms.specs.Layout.{Leaf}
+use Rattle.lt_terms.specs.Log.{Change}
+use Rattle.lt_machine.specs.Machine.{Answer, Does, Job, State, job_after}
+use Rattle.lt_machine.specs.Outside.{AreMade, bundles_made, bytes_of_bundle, job_bundles, next_bundles}
+use Rattle.lt_tables.specs.Query.{Command, do_compact, do_deltas, do_flush, do_job_begin, do_job_drop, do_job_finish, do_job_step, do_page, do_pump, do_reopen, do_retain, do_retire, do_scan, do_schema, do_split, do_status}
+use Rattle.lt_storage.specs.Store.{Delta}
+use Rattle.lt_tables.specs.Version.{RowVersion}
 use Rattle.lt_laws.proofs.JobLaws.{part_job_is}
 use Rattle.lt_steps.proofs.JobKept.{made_faults, made_stays, same_job}
 use Rattle.lt_steps.proofs.JobMade.{job_makes}

@@ -4,20 +4,21 @@ use Rattle.std.specs.Prelude.{IfSome, IfSome, IsSome, IsTrue, None, Option, Some
 use Rattle.std.specs.List.{AllByRecursion, list_all}
 use Rattle.std.proofs.lemmas.Bool.{and_from, and_parts, false≢true}
 use Rattle.std.proofs.lemmas.List.{length-append, map-append}
-use Rattle.lt_model.specs.declared.Extent.{Extent}
-use Rattle.lt_model.specs.Bundle.{grouped}
-use Rattle.lt_model.specs.Fair.{Feed}
-use Rattle.lt_model.specs.Layout.{Leaf}
-use Rattle.lt_model.specs.Log.{Change, Header, Item}
-use Rattle.lt_model.specs.Machine.{Answer, Does, Job, State, Step, StepBy, cat_of, flush_id, flushed_lists, job_after, not_empty, output_id, pending_of, refused, table_numbers, with_delta}
-use Rattle.lt_model.specs.Outside.{AreBesides, AreMade, MadeStand, bundles_after, bundles_made, bundles_under, bytes_of_bundle, input_keys, job_bundles, made_of, tables_after}
-use Rattle.lt_model.specs.Reply.{Refusal}
-use Rattle.lt_model.specs.Run.{AfterFault}
-use Rattle.lt_model.specs.Schema.{Catalogue, carriers}
-use Rattle.lt_model.specs.Script.{Command, do_compact, do_deltas, do_flush, do_job_begin, do_job_drop, do_job_finish, do_job_step, do_page, do_pump, do_reopen, do_retain, do_retire, do_scan, do_schema, do_split, do_status}
-use Rattle.lt_model.specs.Sound.{IsGood, Session, JobBegan, JobStands, source_of}
-use Rattle.lt_model.specs.Store.{Delta, Durable, Placing, apart, are_apart, carried_versions, delta_with, deltas_of, extents_of}
-use Rattle.lt_model.specs.Version.{RowVersion, clip, merge}
+use Rattle.lt_terms.specs.declared.Extent.{Extent}
+use Rattle.lt_storage.specs.Bundle.{grouped}
+use Rattle.lt_world.specs.Feed.{Feed}
+use Rattle.lt_terms.specs.Layout.{Leaf}
+use Rattle.lt_terms.specs.Log.{Change, Header, Item}
+use Rattle.lt_machine.specs.Machine.{Answer, Does, Job, State, Step, StepBy, cat_of, flush_id, flushed_lists, job_after, not_empty, output_id, pending_of, refused, table_numbers, with_delta}
+use Rattle.lt_machine.specs.Outside.{AreBesides, AreMade, MadeStand, bundles_after, bundles_made, bundles_under, bytes_of_bundle, input_keys, job_bundles, made_of, tables_after}
+use Rattle.lt_words.specs.Reply.{Refusal}
+use Rattle.lt_machine.specs.Run.{AfterFault}
+use Rattle.lt_tables.specs.Schema.{Catalogue, carriers}
+use Rattle.lt_tables.specs.Query.{Command, do_compact, do_deltas, do_flush, do_job_begin, do_job_drop, do_job_finish, do_job_step, do_page, do_pump, do_reopen, do_retain, do_retire, do_scan, do_schema, do_split, do_status}
+use Rattle.lt_machine.specs.Sound.{IsGood, Session, JobBegan, JobStands, source_of}
+use Rattle.lt_world.specs.Extents.{apart, are_apart}
+use Rattle.lt_storage.specs.Store.{Delta, Durable, Placing, carried_versions, delta_with, deltas_of, extents_of}
+use Rattle.lt_tables.specs.Version.{RowVersion, clip, merge}
 use Rattle.lt_laws.proofs.CompactLaws.{no_job}
 use Rattle.lt_laws.proofs.ShelfGrowth.{named_stay}
 use Rattle.lt_laws.proofs.StepLaws.{unrefused}

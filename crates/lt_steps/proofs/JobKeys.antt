@@ -3,18 +3,18 @@ use Rattle.std.proofs.Common.{Bool, List, [], ap, append-nil, arith, cond, drop,
 use Rattle.std.specs.Prelude.{Some, nat_le, slice_get, ◌==◌}
 use Rattle.std.specs.List.{AllByRecursion}
 use Rattle.std.proofs.lemmas.Bool.{false≢true}
-use Rattle.lt_model.specs.Outside.{full_bundles, input_keys, made_of}
-use Rattle.lt_model.specs.Bundle.{bundle_bytes, cut_groups, full_size, grouped, with_group}
-use Rattle.lt_model.specs.Key.{same_key}
-use Rattle.lt_model.specs.Layout.{Leaf}
-use Rattle.lt_model.specs.Machine.{Job}
-use Rattle.lt_model.specs.Store.{Delta, merged_in}
-use Rattle.lt_model.specs.Version.{RowVersion}
+use Rattle.lt_machine.specs.Outside.{full_bundles, input_keys, made_of}
+use Rattle.lt_storage.specs.Bundle.{bundle_bytes, cut_groups, full_size, grouped, with_group}
+use Rattle.lt_terms.specs.Key.{same_key}
+use Rattle.lt_terms.specs.Layout.{Leaf}
+use Rattle.lt_machine.specs.Machine.{Job}
+use Rattle.lt_storage.specs.Store.{Delta, merged_in}
+use Rattle.lt_tables.specs.Version.{RowVersion}
 use Rattle.lt_laws.proofs.ListLaws.{grouped-flat}
 use Rattle.lt_laws.proofs.DurableFacts.{got_is_held}
 use Rattle.lt_laws.proofs.ListFacts.{all_at}
-use Rattle.lt_laws.proofs.MergeLaws.{same-itself, same-key}
-use Rattle.lt_laws.proofs.SoundLaws.{pick}
+use Rattle.lt_lemmas.proofs.MergeLaws.{same-itself, same-key}
+use Rattle.lt_lemmas.proofs.SoundLaws.{pick}
 use Rattle.lt_steps.proofs.JobMade.{is_merged, keyless_front, taken_parts}
 use Rattle.lt_steps.proofs.JobPieces.{AreKeyless, flat, parted_at, settled_all}
 use Rattle.lt_steps.specs.Jobs.{JobGoesOn, as_group, open_left}

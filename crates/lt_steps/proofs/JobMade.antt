@@ -3,19 +3,20 @@ use Rattle.std.proofs.Common.{Bool, List, [], ap, ap₂, append-nil, append_asso
 use Rattle.std.specs.Prelude.{IsTrue, filter, flat_map, if◌then◌else◌, map, min, nat_le, nat_lt, sum}
 use Rattle.std.specs.List.{AllByRecursion}
 use Rattle.std.proofs.lemmas.List.{map-append}
-use Rattle.lt_model.specs.declared.Progress.TheVariants as progress
-use Rattle.lt_model.specs.Bundle.{cut, cut_groups, grouped}
-use Rattle.lt_model.specs.Layout.{Leaf}
-use Rattle.lt_model.specs.Machine.{Job, State, job_after, job_keys, job_progress, not_empty, table_numbers}
-use Rattle.lt_model.specs.Outside.{bundles_after, bundles_made, bundles_under, full_bundles, input_keys, job_bundles, made_of, next_bundles, tables_after}
-use Rattle.lt_model.specs.Schema.{carriers}
-use Rattle.lt_model.specs.Store.{Delta, carried_versions, deltas_of, merged_in}
-use Rattle.lt_model.specs.Version.{RowVersion, collapse, is_ordered, merge}
-use Rattle.lt_model.specs.Key.{same_key}
+use Rattle.lt_terms.specs.declared.Progress.TheVariants as progress
+use Rattle.lt_storage.specs.Bundle.{cut, cut_groups, grouped}
+use Rattle.lt_terms.specs.Layout.{Leaf}
+use Rattle.lt_machine.specs.Machine.{Job, State, job_after, job_keys, job_progress, not_empty, table_numbers}
+use Rattle.lt_machine.specs.Outside.{bundles_after, bundles_made, bundles_under, full_bundles, input_keys, job_bundles, made_of, next_bundles, tables_after}
+use Rattle.lt_tables.specs.Schema.{carriers}
+use Rattle.lt_storage.specs.Store.{Delta, carried_versions, deltas_of, merged_in}
+use Rattle.lt_tables.specs.Version.{RowVersion, collapse, is_ordered, merge}
+use Rattle.lt_terms.specs.Key.{same_key}
 use Rattle.lt_laws.proofs.ListLaws.{grouped-flat}
-use Rattle.lt_laws.proofs.ListFacts.{all_front, all_map}
-use Rattle.lt_laws.proofs.MergeLaws.{clip-ordered, merge-ordered}
-use Rattle.lt_laws.proofs.SoundLaws.{pick}
+use Rattle.lt_codecs.proofs.ListFacts.{all_front, all_map}
+use Rattle.lt_lemmas.proofs.MergeLaws.{clip-ordered}
+use Rattle.lt_laws.proofs.MergeLaws.{merge-ordered}
+use Rattle.lt_lemmas.proofs.SoundLaws.{pick}
 use Rattle.lt_steps.proofs.JobPieces.{AreKeyless, IsFront, cut_front, flat, full_front, groups_settled, parted_at}
 use Rattle.lt_steps.specs.Jobs.{JobMakes}
 

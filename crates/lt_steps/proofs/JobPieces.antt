@@ -4,17 +4,18 @@ use Rattle.std.specs.Prelude.{IsTrue, filter, flat_map, nat_le, nat_lt, ⊤, ◌
 use Rattle.std.specs.List.{AllByRecursion}
 use Rattle.std.proofs.lemmas.Bool.{and_parts, false≢true, or_cases}
 use Rattle.std.proofs.lemmas.List.Elements.{filter-append}
-use Rattle.lt_model.specs.Outside.{full_bundles}
-use Rattle.lt_model.specs.Bundle.{bundle_bytes, cut_groups, full_size, grouped, with_group}
-use Rattle.lt_model.specs.Key.{below, same_key}
-use Rattle.lt_model.specs.Layout.{Leaf}
-use Rattle.lt_model.specs.Version.{RowVersion, collapse, compose, is_insert, is_ordered, onto, rolled_up, stands_before}
+use Rattle.lt_machine.specs.Outside.{full_bundles}
+use Rattle.lt_storage.specs.Bundle.{bundle_bytes, cut_groups, full_size, grouped, with_group}
+use Rattle.lt_terms.specs.Key.{below, same_key}
+use Rattle.lt_terms.specs.Layout.{Leaf}
+use Rattle.lt_tables.specs.Version.{RowVersion, collapse, compose, is_insert, is_ordered, onto, rolled_up, stands_before}
 use Rattle.lt_laws.proofs.ListLaws.{grouped-flat}
 use Rattle.lt_laws.proofs.JobOutput.{composed_key}
-use Rattle.lt_laws.proofs.SnapshotLaws.{apart}
-use Rattle.lt_laws.proofs.ClipLaws.{key-trans}
-use Rattle.lt_laws.proofs.ListFacts.{all_filter, all_map}
-use Rattle.lt_laws.proofs.MergeLaws.{same-key}
+use Rattle.lt_lemmas.proofs.SnapshotLaws.{apart}
+use Rattle.lt_lemmas.proofs.ClipLaws.{key-trans}
+use Rattle.lt_codecs.proofs.ListFacts.{all_map}
+use Rattle.lt_lemmas.proofs.ListFacts.{all_filter}
+use Rattle.lt_lemmas.proofs.MergeLaws.{same-key}
 
 -- ---- lists that share no key
 

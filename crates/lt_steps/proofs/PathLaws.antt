@@ -2,17 +2,18 @@
 use Rattle.std.proofs.Common.{List, [], ap, arith, false, inl, inr, subst, sym, ◌∷◌, ◌≡◌, ◌≤◌}
 use Rattle.std.specs.Prelude.{None, ◌⊎◌}
 use Rattle.std.specs.List.{AllByRecursion}
-use Rattle.lt_model.specs.Fair.{AreShort, Feed, Grows}
-use Rattle.lt_model.specs.Log.{Header, Item}
-use Rattle.lt_model.specs.Machine.{Answer, CheckpointsStay, State, Step, cat_of, is_reopen, refused}
-use Rattle.lt_model.specs.Reply.{Refusal, out_of_memory}
-use Rattle.lt_model.specs.Run.{AfterFault, Answers, CauseOf, LineRunsAs, Moment, last_moment}
-use Rattle.lt_model.specs.Script.{Command, Line, bad_line, skipped, spells_command}
-use Rattle.lt_model.specs.Sound.{FailedIsLater, FailedIsSound, IsGood, Session, source_of}
-use Rattle.lt_model.specs.Value.{Value}
+use Rattle.lt_world.specs.Feed.{AreShort, Feed, Grows}
+use Rattle.lt_terms.specs.Log.{Header, Item}
+use Rattle.lt_machine.specs.Machine.{Answer, CheckpointsStay, State, Step, cat_of, is_reopen, refused}
+use Rattle.lt_words.specs.Reply.{Refusal, out_of_memory}
+use Rattle.lt_machine.specs.Run.{AfterFault, Answers, CauseOf, LineRunsAs, Moment, last_moment}
+use Rattle.lt_tables.specs.Query.{Command}
+use Rattle.lt_words.specs.Script.{Line, bad_line, skipped, spells_command}
+use Rattle.lt_machine.specs.Sound.{FailedIsLater, FailedIsSound, IsGood, Session, source_of}
+use Rattle.lt_terms.specs.Value.{Value}
 use Rattle.lt_laws.proofs.AllSteps.{step_keeps}
 use Rattle.lt_laws.proofs.FaultLaws.{fault_keeps}
-use Rattle.lt_laws.proofs.FrontLaws.{grows_itself}
+use Rattle.lt_lemmas.proofs.FrontLaws.{grows_itself}
 use Rattle.lt_laws.proofs.FrontStands.{fronts_grow}
 use Rattle.lt_laws.proofs.GrowthLaws.{growth_keeps}
 use Rattle.lt_steps.proofs.RisingLaws.{nothing_falls}

@@ -4,22 +4,27 @@ use Rattle.std.specs.Prelude.{Contains, IsTrue, Some, find, map, nat_lt, zip, ‚ä
 use Rattle.std.specs.List.{AllByRecursion}
 use Rattle.std.proofs.lemmas.Bool.{and_parts}
 use Rattle.std.proofs.lemmas.List.{take-append-drop}
-use Rattle.lt_model.specs.Value.{rises_above, rises_strictly}
-use Rattle.lt_model.specs.Key.{Range, below, in_range, same_key}
-use Rattle.lt_model.specs.Schema.{Catalogue}
-use Rattle.lt_model.specs.Log.{Change, Header, Item, change_key, changes_of}
-use Rattle.lt_model.specs.Fair.{Feed, IsPrefix, changes_to, header_length}
-use Rattle.lt_model.specs.Machine as machine
-use Rattle.lt_model.specs.Machine.{StreamAt, Takes, all_delivered, cat_of, delivered, put_name, ranges_of}
-use Rattle.lt_model.specs.Outside.{Memory, name_of, put_change}
-use Rattle.lt_model.specs.Row.{is_in_time}
-use Rattle.lt_model.specs.Sound.{AreAtPlaces, FrontsFrom, PendingOfAll, Stands, items_before, passed, source_of}
-use Rattle.lt_model.specs.Store.{Durable, Part}
+use Rattle.lt_terms.specs.Value.{rises_above, rises_strictly}
+use Rattle.lt_terms.specs.Key.{Range, below, in_range, same_key}
+use Rattle.lt_tables.specs.Schema.{Catalogue}
+use Rattle.lt_terms.specs.Log.{Change, Header, Item, change_key, changes_of}
+use Rattle.lt_world.specs.Feed.{Feed}
+use Rattle.lt_tables.specs.Fair.{IsPrefix, changes_to, header_length}
+use Rattle.lt_machine.specs.Machine as machine
+use Rattle.lt_tables.specs.Pump.{StreamAt, Takes, all_delivered, delivered, put_name}
+use Rattle.lt_machine.specs.Machine.{cat_of, ranges_of}
+use Rattle.lt_tables.specs.Pump.{name_of, put_change}
+use Rattle.lt_machine.specs.Sound.{Memory}
+use Rattle.lt_tables.specs.Row.{is_in_time}
+use Rattle.lt_machine.specs.Sound.{AreAtPlaces, FrontsFrom, PendingOfAll, Stands, items_before, passed, source_of}
+use Rattle.lt_tables.specs.Pump.{Part}
+use Rattle.lt_storage.specs.Store.{Durable}
 use Rattle.lt_codecs.proofs.ListFacts.{all_append, all_front, all_map, all_rest}
 use Rattle.lt_laws.proofs.FlushLaws.{passed_from}
 use Rattle.lt_laws.proofs.HeldLaws.{rises_tail}
-use Rattle.lt_laws.proofs.ListFacts.{all_at, all_contained, contains_front, contains_rest}
-use Rattle.lt_laws.proofs.PointLaws.{changes_of-append, itself, same}
+use Rattle.lt_lemmas.proofs.ListFacts.{all_contained}
+use Rattle.lt_laws.proofs.ListFacts.{all_at, contains_front, contains_rest}
+use Rattle.lt_lemmas.proofs.PointLaws.{changes_of-append, itself, same}
 use Rattle.lt_laws.proofs.PumpLaws.{pumped}
 use Rattle.lt_laws.proofs.RangeLaws.{source_in_time}
 use Rattle.lt_laws.proofs.SoundLaws.{before-take}

@@ -3,17 +3,22 @@ use Rattle.std.proofs.Common.{Bool, List, [], ap, append-nil, cond, false, inl, 
 use Rattle.std.specs.Prelude.{Contains, IsTrue, None, Option, Some, find, nat_lt, ◌&&◌, ◌==◌, ◌⊎◌}
 use Rattle.std.specs.List.{AllByRecursion}
 use Rattle.std.proofs.lemmas.Bool.{and_parts}
-use Rattle.lt_model.specs.Fair.{Feed}
-use Rattle.lt_model.specs.Key.{Range, in_range}
-use Rattle.lt_model.specs.Log.{Change, Header, Item, change_key, changes_of, is_item, is_read}
-use Rattle.lt_model.specs.Machine.{Answer, Does, State, Step, StepBy, StreamAt, Takes, cat_of, moved_by, refused, with_items, with_streams}
-use Rattle.lt_model.specs.Outside.{BelongsTo, Memory, put_change}
-use Rattle.lt_model.specs.Reply.{Refusal}
-use Rattle.lt_model.specs.Schema.{Catalogue}
-use Rattle.lt_model.specs.Script.{do_pump}
-use Rattle.lt_model.specs.Sound.{AreAtPlaces, FrontsFrom, IsGood, source_of}
+use Rattle.lt_world.specs.Feed.{Feed}
+use Rattle.lt_terms.specs.Key.{Range, in_range}
+use Rattle.lt_terms.specs.Log.{Change, Header, Item, change_key, changes_of, is_item, is_read}
+use Rattle.lt_tables.specs.Pump.{StreamAt, Takes, moved_by}
+use Rattle.lt_machine.specs.Machine.{Answer, Does, State, Step, StepBy, cat_of, refused, with_items, with_streams}
+use Rattle.lt_tables.specs.Pump.{put_change}
+use Rattle.lt_machine.specs.Outside.{BelongsTo}
+use Rattle.lt_machine.specs.Sound.{Memory}
+use Rattle.lt_words.specs.Reply.{Refusal}
+use Rattle.lt_tables.specs.Schema.{Catalogue}
+use Rattle.lt_tables.specs.Query.{do_pump}
+use Rattle.lt_machine.specs.Sound.{AreAtPlaces, FrontsFrom, IsGood, source_of}
 use Rattle.lt_laws.proofs.PumpLaws.{none_enter}
-use Rattle.lt_laws.proofs.ListFacts.{all_at, all_contained, all_from, all_map, find_all}
+use Rattle.lt_codecs.proofs.ListFacts.{all_map}
+use Rattle.lt_lemmas.proofs.ListFacts.{all_contained, all_from, find_all}
+use Rattle.lt_laws.proofs.ListFacts.{all_at}
 use Rattle.lt_pump.proofs.GivenLaws.{all_put}
 use Rattle.lt_pump.specs.Given.{all_given, given}
 use Rattle.lt_steps.proofs.PumpedMemory.{memory_pumps}

@@ -7,36 +7,46 @@ use Rattle.std.specs.Option.{option_map_or}
 use Rattle.std.proofs.lemmas.Bool.{and_from, and_parts, false≢true, lt-leb, or_cases}
 use Rattle.std.proofs.lemmas.List.{reverse-append, take_at}
 use Rattle.std.proofs.lemmas.List.Elements.{filter-append}
-use Rattle.lt_model.specs.Value.{rises_above, rises_strictly}
-use Rattle.lt_model.specs.Key.{KeyPart, Range, below, in_range, key_bytes, max_key, meets, part_bytes, same_key, tile}
-use Rattle.lt_model.specs.Conversion.{same_bytes}
-use Rattle.lt_model.specs.Schema.{Catalogue, Table, registered, table_numbered}
-use Rattle.lt_model.specs.Log.{Change, Header, Item, change_key, u32}
-use Rattle.lt_model.specs.Fair.{Feed, changes_to, has_change_shape}
-use Rattle.lt_model.specs.Row.{Row, after_change, changes_up_to, is_in_time, row_after, row_at}
-use Rattle.lt_model.specs.Bundle.{has_table}
-use Rattle.lt_model.specs.Laws.{IsKeyed}
-use Rattle.lt_model.specs.Machine.{State, cat_of, checkpoint_at, checkpoints_meeting, first_below, least, numbered_from, query_interval, ranges_of}
-use Rattle.lt_model.specs.Outside.{Memory, is_deliverable, name_of}
-use Rattle.lt_model.specs.Sound.{IsGood, PendingOf, PendingOfAll, SoundPart, SoundParts, passed, source_of, up_to_ts}
-use Rattle.lt_model.specs.Store.{Delta, Durable, Part, carried_versions, deltas_of, part_ranges, stored}
-use Rattle.lt_model.specs.Version.{RowVersion, clip, effect_of, is_ordered, merge, seen}
+use Rattle.lt_terms.specs.Value.{rises_above, rises_strictly}
+use Rattle.lt_terms.specs.Key.{KeyPart, Range, below, in_range, key_bytes, max_key, meets, part_bytes, same_key, tile}
+use Rattle.lt_terms.specs.Conversion.{same_bytes}
+use Rattle.lt_tables.specs.Schema.{Catalogue, Table, registered, table_numbered}
+use Rattle.lt_terms.specs.Log.{Change, Header, Item, change_key, u32}
+use Rattle.lt_world.specs.Feed.{Feed}
+use Rattle.lt_tables.specs.Fair.{changes_to, has_change_shape}
+use Rattle.lt_tables.specs.Row.{Row, after_change, changes_up_to, is_in_time, row_after, row_at}
+use Rattle.lt_storage.specs.Bundle.{has_table}
+use Rattle.lt_tables.specs.Row.{IsKeyed}
+use Rattle.lt_tables.specs.Pump.{numbered_from}
+use Rattle.lt_machine.specs.Machine.{State, cat_of, checkpoint_at, checkpoints_meeting, first_below, least, query_interval, ranges_of}
+use Rattle.lt_tables.specs.Pump.{is_deliverable, name_of}
+use Rattle.lt_machine.specs.Sound.{Memory}
+use Rattle.lt_machine.specs.Sound.{IsGood, PendingOf, PendingOfAll, SoundPart, SoundParts, passed, source_of, up_to_ts}
+use Rattle.lt_tables.specs.Pump.{Part}
+use Rattle.lt_storage.specs.Store.{Delta, Durable, carried_versions, deltas_of, part_ranges, stored}
+use Rattle.lt_tables.specs.Version.{RowVersion, clip, effect_of, is_ordered, merge, seen}
 use Rattle.lt_laws.proofs.AnswerLaws.{IsSound, sound_from}
-use Rattle.lt_laws.proofs.ConversionLemmas.{same_bytes-self}
+use Rattle.lt_lemmas.proofs.ConversionLemmas.{same_bytes-self}
 use Rattle.lt_laws.proofs.FairLaws.{none_to}
 use Rattle.lt_laws.proofs.HeldLaws.{once, rises_tail}
-use Rattle.lt_laws.proofs.ListFacts.{all_append, all_at, all_from, all_map, contains_front, contains_rest, from_map, held_either, held_one, in_map}
-use Rattle.lt_laws.proofs.MergeLaws.{Above, ordered-above, ordered-tail}
-use Rattle.lt_laws.proofs.PointLaws.{itself, same}
-use Rattle.lt_laws.proofs.PumpLaws.{Name, as_version, as_versions}
-use Rattle.lt_laws.proofs.RangeLaws.{IsOutOf, IsSole, source_in_time, tile_sole}
-use Rattle.lt_laws.proofs.RowLemmas.{reads_in_order}
+use Rattle.lt_codecs.proofs.ListFacts.{all_append, all_map}
+use Rattle.lt_lemmas.proofs.ListFacts.{all_from}
+use Rattle.lt_laws.proofs.ListFacts.{all_at, contains_front, contains_rest, from_map, held_either, held_one, in_map}
+use Rattle.lt_lemmas.proofs.MergeLaws.{Above, ordered-above, ordered-tail}
+use Rattle.lt_lemmas.proofs.PointLaws.{itself, same}
+use Rattle.lt_lemmas.proofs.PumpLaws.{Name, as_version, as_versions}
+use Rattle.lt_lemmas.proofs.RangeLaws.{IsOutOf, IsSole, tile_sole}
+use Rattle.lt_laws.proofs.RangeLaws.{source_in_time}
+use Rattle.lt_lemmas.proofs.RowLemmas.{reads_in_order}
 use Rattle.lt_laws.proofs.ScanLaws.{IsPassed, any_of, passed_all, tiles_of}
 use Rattle.lt_laws.proofs.ScanLemmas.{from-filter, in-filter}
-use Rattle.lt_laws.proofs.SnapshotLaws.{answer_by_rows, apart, no_row, or_rest}
-use Rattle.lt_laws.proofs.SoundLaws.{at-least, in-some-part, le-false, le-true, least-all, max-other, meets-by, none-mapped, not-found, pick}
-use Rattle.lt_laws.proofs.TakenLaws.{change_shaped, left, right, source_keyed}
-use Rattle.lt_laws.proofs.VersionGrowth.{its_number}
+use Rattle.lt_lemmas.proofs.SnapshotLaws.{apart, no_row, or_rest}
+use Rattle.lt_laws.proofs.SnapshotLaws.{answer_by_rows}
+use Rattle.lt_lemmas.proofs.SoundLaws.{meets-by, pick}
+use Rattle.lt_laws.proofs.SoundLaws.{at-least, in-some-part, le-false, le-true, least-all, max-other, none-mapped, not-found}
+use Rattle.lt_lemmas.proofs.TakenLaws.{left, right}
+use Rattle.lt_laws.proofs.TakenLaws.{change_shaped, source_keyed}
+use Rattle.lt_lemmas.proofs.VersionGrowth.{its_number}
 use Rattle.lt_laws.proofs.WidenedRows.{sound_shape}
 use Rattle.lt_steps.specs.Memory.{MemoryReads, gone_over}
 

@@ -3,30 +3,34 @@ use Rattle.std.proofs.Common.{Bool, List, [], ap, arith, cond, false, inl, inr, 
 use Rattle.std.specs.Prelude.{None, Option, Some, find, is_some, map, nat_lt, not, option_map, slice_get, unwrap_or, zip, ◌&&◌, ◌||◌}
 use Rattle.std.specs.List.{AllByRecursion, list_any}
 use Rattle.std.proofs.lemmas.Bool.{and_from, and_parts, false≢true}
-use Rattle.lt_model.specs.Fair.{Feed}
-use Rattle.lt_model.specs.Key.{Range, below, in_range, is_below_high, lies_in, meets, ranges_from}
-use Rattle.lt_model.specs.Log.{Header, Item}
-use Rattle.lt_model.specs.Machine.{Answer, CheckpointsStay, Does, Job, State, checkpoint_for, is_reopen, StepBy, StreamAt, cat_of, checkpoint_at, compacted, first_below, flush_id, is_write, numbered_from, output_id, part_of, parts_replaced, ranges_of, refused, replaced, resume_after, split_key, with_id, with_resume}
-use Rattle.lt_model.specs.Reply.{Refusal, needs_reopen}
-use Rattle.lt_model.specs.Run.{AfterFault}
-use Rattle.lt_model.specs.Schema.{change_at}
-use Rattle.lt_model.specs.Script.{Command, do_compact, do_deltas, do_flush, do_job_begin, do_job_drop, do_job_finish, do_job_step, do_page, do_pump, do_reopen, do_retain, do_retire, do_scan, do_schema, do_split, do_status}
-use Rattle.lt_model.specs.Sound.{IsGood, source_of}
-use Rattle.lt_model.specs.Store.{Durable, IsLawfulPart, Part, part_ranges}
+use Rattle.lt_world.specs.Feed.{Feed}
+use Rattle.lt_terms.specs.Key.{Range, below, in_range, is_below_high, lies_in, meets, ranges_from}
+use Rattle.lt_terms.specs.Log.{Header, Item}
+use Rattle.lt_tables.specs.Pump.{StreamAt, numbered_from, part_of}
+use Rattle.lt_machine.specs.Machine.{Answer, CheckpointsStay, Does, Job, State, checkpoint_for, is_reopen, StepBy, cat_of, checkpoint_at, compacted, first_below, flush_id, is_write, output_id, parts_replaced, ranges_of, refused, replaced, resume_after, split_key, with_id, with_resume}
+use Rattle.lt_words.specs.Reply.{Refusal, needs_reopen}
+use Rattle.lt_machine.specs.Run.{AfterFault}
+use Rattle.lt_tables.specs.Schema.{change_at}
+use Rattle.lt_tables.specs.Query.{Command, do_compact, do_deltas, do_flush, do_job_begin, do_job_drop, do_job_finish, do_job_step, do_page, do_pump, do_reopen, do_retain, do_retire, do_scan, do_schema, do_split, do_status}
+use Rattle.lt_machine.specs.Sound.{IsGood, source_of}
+use Rattle.lt_tables.specs.Pump.{Part}
+use Rattle.lt_storage.specs.Store.{Durable, IsLawfulPart, part_ranges}
 use Rattle.lt_laws.proofs.CompactedShelf.{lows_replaced}
 use Rattle.lt_laws.proofs.FaultLaws.{fault_keeps}
 use Rattle.lt_laws.proofs.NeverFalls.{minimum_never_falls}
 use Rattle.lt_laws.proofs.PartsChanged.{ranges_changed}
-use Rattle.lt_laws.proofs.PointLaws.{when_none}
+use Rattle.lt_lemmas.proofs.ListFacts.{when_none}
 use Rattle.lt_laws.proofs.PumpLaws.{pump_keeps}
 use Rattle.lt_laws.proofs.JobLaws.{as_many}
-use Rattle.lt_laws.proofs.RangeLaws.{IsOutOf, IsSole, tile_sole}
+use Rattle.lt_lemmas.proofs.RangeLaws.{IsOutOf, IsSole, tile_sole}
 use Rattle.lt_laws.proofs.ReadLaws.{or_left, or_right}
 use Rattle.lt_laws.proofs.ScanLaws.{tiles_of}
-use Rattle.lt_laws.proofs.SoundLaws.{at-least, meets-by, none-mapped, not-found, pick}
-use Rattle.lt_laws.proofs.SplitLaws.{Each, first_stays, lows_of, meets_some}
+use Rattle.lt_lemmas.proofs.SoundLaws.{meets-by, pick}
+use Rattle.lt_laws.proofs.SoundLaws.{at-least, none-mapped, not-found}
+use Rattle.lt_lemmas.proofs.SplitLaws.{meets_some}
+use Rattle.lt_laws.proofs.SplitLaws.{Each, first_stays, lows_of}
 use Rattle.lt_laws.proofs.StepLaws.{headers_are, refusals}
-use Rattle.lt_laws.proofs.TableLaws.{all_none}
+use Rattle.lt_lemmas.proofs.ListFacts.{all_none}
 use Rattle.lt_steps.proofs.BelongsLaws.{same_fronts}
 use Rattle.lt_steps.proofs.PumpedOn.{took}
 use Rattle.lt_steps.proofs.SplitParts.{id_low, in_lower, in_upper, lower, range_before, replaced_resume, split_at, upper}

@@ -2,18 +2,20 @@
 use Rattle.std.proofs.Common.{Bool, List, [], ap, ap₂, cond, false, refl, subst, sym, true, ℕ, ◌∙◌, ◌∷◌, ◌≡◌}
 use Rattle.std.specs.Prelude.{Contains, Option, Some, filter, map, not}
 use Rattle.std.specs.List.{AllByRecursion}
-use Rattle.lt_model.specs.Fair.{Feed}
-use Rattle.lt_model.specs.Key.{Range, below, in_range}
-use Rattle.lt_model.specs.Log.{Change, Header, Item, change_key}
-use Rattle.lt_model.specs.Machine.{Does, State, StepBy, cat_of, ranges_of, split_key, split_pending, was_split}
-use Rattle.lt_model.specs.Outside.{BelongsTo, Memory, name_of}
-use Rattle.lt_model.specs.Reply.{Refusal}
-use Rattle.lt_model.specs.Schema.{Table}
-use Rattle.lt_model.specs.Script.{do_split}
-use Rattle.lt_model.specs.Sound.{IsGood, source_of}
+use Rattle.lt_world.specs.Feed.{Feed}
+use Rattle.lt_terms.specs.Key.{Range, below, in_range}
+use Rattle.lt_terms.specs.Log.{Change, Header, Item, change_key}
+use Rattle.lt_machine.specs.Machine.{Does, State, StepBy, cat_of, ranges_of, split_key, split_pending, was_split}
+use Rattle.lt_tables.specs.Pump.{name_of}
+use Rattle.lt_machine.specs.Outside.{BelongsTo}
+use Rattle.lt_machine.specs.Sound.{Memory}
+use Rattle.lt_words.specs.Reply.{Refusal}
+use Rattle.lt_tables.specs.Schema.{Table}
+use Rattle.lt_tables.specs.Query.{do_split}
+use Rattle.lt_machine.specs.Sound.{IsGood, source_of}
 use Rattle.lt_codecs.proofs.LogLaws.{frames_prefix_free}
 use Rattle.lt_laws.proofs.FrontLaws.{fronts_unique}
-use Rattle.lt_laws.proofs.ListFacts.{all_filter}
+use Rattle.lt_lemmas.proofs.ListFacts.{all_filter}
 use Rattle.lt_laws.proofs.SplitLaws.{split_keeps}
 use Rattle.lt_steps.specs.Memory.{MemorySplits, split_memory}
 

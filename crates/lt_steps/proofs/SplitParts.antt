@@ -2,11 +2,13 @@
 use Rattle.std.proofs.Common.{Bool, List, ap, cond, false, refl, true, ℕ, ◌≡◌}
 use Rattle.std.specs.Prelude.{None, Option, Some, not}
 use Rattle.std.proofs.lemmas.Bool.{and_from, and_parts, false≢true}
-use Rattle.lt_model.specs.Key.{Range, below, first_bound, in_range, is_below_high}
-use Rattle.lt_model.specs.Machine.{Job, replaced, split_parts, with_id, with_resume}
-use Rattle.lt_model.specs.Store.{Part, part_ranges}
-use Rattle.lt_laws.proofs.PointLaws.{below_trans}
-use Rattle.lt_laws.proofs.SplitLaws.{lows_of, not_below_trans}
+use Rattle.lt_terms.specs.Key.{Range, below, first_bound, in_range, is_below_high}
+use Rattle.lt_machine.specs.Machine.{Job, replaced, split_parts, with_id, with_resume}
+use Rattle.lt_tables.specs.Pump.{Part}
+use Rattle.lt_storage.specs.Store.{part_ranges}
+use Rattle.lt_lemmas.proofs.PointLaws.{below_trans}
+use Rattle.lt_lemmas.proofs.SplitLaws.{not_below_trans}
+use Rattle.lt_laws.proofs.SplitLaws.{lows_of}
 
 -- ---- a split
 

@@ -4,20 +4,23 @@ use Rattle.std.specs.Prelude.{Contains, Err, None, Ok, Option, Result, Some, ifâ
 use Rattle.std.specs.List.{AllByRecursion}
 use Rattle.std.specs.Option.{option_map_or}
 use Rattle.std.proofs.lemmas.Bool.{falseâ‰¢true, not-false}
-use Rattle.lt_model.specs.Fair.{Feed}
-use Rattle.lt_model.specs.Log.{Change, Header, Item}
-use Rattle.lt_model.specs.Machine.{Answer, State, StepBy, added_read, cat_of, refused, registered_named, with_catalogue, with_cause}
-use Rattle.lt_model.specs.Outside.{BelongsTo, Memory}
-use Rattle.lt_model.specs.Reply.{Refusal, is_last_version, no_such_version, version_retired}
-use Rattle.lt_model.specs.Schema.{Became, Catalogue, IsCatalogue, Registered, SchemaFault, SchemaVersion, Table, already_retired, as_it_was, err_or, last_version, registered, schema_fault, table_named, table_numbered, then_added, then_retired, unknown_table, unknown_version, when, with_version, without_version}
-use Rattle.lt_model.specs.SchemaText.{JsonFault, version_of_text}
-use Rattle.lt_model.specs.Script.{do_retire, do_schema}
-use Rattle.lt_model.specs.Sound.{IsGood, source_of}
-use Rattle.lt_codecs.proofs.ListFacts.{all_map, when_none}
+use Rattle.lt_world.specs.Feed.{Feed}
+use Rattle.lt_terms.specs.Log.{Change, Header, Item}
+use Rattle.lt_machine.specs.Machine.{Answer, State, StepBy, added_read, cat_of, refused, registered_named, with_catalogue, with_cause}
+use Rattle.lt_machine.specs.Outside.{BelongsTo}
+use Rattle.lt_machine.specs.Sound.{Memory}
+use Rattle.lt_words.specs.Reply.{Refusal, is_last_version, no_such_version, version_retired}
+use Rattle.lt_tables.specs.Schema.{Became, Catalogue, IsCatalogue, Registered, SchemaFault, SchemaVersion, Table, already_retired, as_it_was, err_or, last_version, registered, schema_fault, table_named, table_numbered, then_added, then_retired, unknown_table, unknown_version, when, with_version, without_version}
+use Rattle.lt_words.specs.SchemaText.{JsonFault, version_of_text}
+use Rattle.lt_tables.specs.Query.{do_retire, do_schema}
+use Rattle.lt_machine.specs.Sound.{IsGood, source_of}
+use Rattle.lt_codecs.proofs.ListFacts.{all_map}
+use Rattle.lt_lemmas.proofs.ListFacts.{when_none}
 use Rattle.lt_codecs.proofs.LogLaws.{frames_prefix_free}
 use Rattle.lt_laws.proofs.AnswerLaws.{named_is_numbered}
 use Rattle.lt_laws.proofs.CatalogueSteps.{retire_keeps, schema_keeps}
-use Rattle.lt_laws.proofs.FrontLaws.{fronts_stay, grows_itself}
+use Rattle.lt_lemmas.proofs.FrontLaws.{grows_itself}
+use Rattle.lt_laws.proofs.FrontLaws.{fronts_stay}
 use Rattle.lt_laws.proofs.ListFacts.{all_at}
 use Rattle.lt_laws.proofs.SoundLaws.{longer-by, source-more}
 use Rattle.lt_laws.proofs.StepLaws.{unrefused}

@@ -3,19 +3,22 @@ use Rattle.std.proofs.Common.{List, [], ap, false, inl, inr, refl, subst, sym, �
 use Rattle.std.specs.Prelude.{IfSome, IsSome, IsTrue, None, Option, Some, is_some, ℕ, ◌⊎◌}
 use Rattle.std.specs.List.{list_all}
 use Rattle.std.proofs.lemmas.Bool.{and_parts}
-use Rattle.lt_model.specs.declared.Extent.{Extent}
-use Rattle.lt_model.specs.Disk.{DiskState}
-use Rattle.lt_model.specs.Fair.{AreShort, Feed}
-use Rattle.lt_model.specs.Log.{Change, Header}
-use Rattle.lt_model.specs.Machine.{Answer, State, Step, opened, refused}
-use Rattle.lt_model.specs.Outside.{AreBesides, BelongsTo, HoldsEither, IsKept, LeavesNow, LeavesSession, StandsOn, is_commit}
-use Rattle.lt_model.specs.OverStore.{KeepsBundles, on_store}
-use Rattle.lt_model.specs.Reply.{Refusal, out_of_memory}
-use Rattle.lt_model.specs.Run.{AfterFault, Attaches}
-use Rattle.lt_model.specs.Script.{Command}
-use Rattle.lt_model.specs.Sound.{FailedIsLater, FailedIsSound, IsSound, LeavesPart, Memory, Session, source_of}
-use Rattle.lt_model.specs.Step.{Serves}
-use Rattle.lt_model.specs.Store.{Durable, Holds, Placing, apart, are_apart, extents_of}
+use Rattle.lt_terms.specs.declared.Extent.{Extent}
+use Rattle.lt_world.specs.Disk.{DiskState}
+use Rattle.lt_world.specs.Feed.{AreShort, Feed}
+use Rattle.lt_terms.specs.Log.{Change, Header}
+use Rattle.lt_machine.specs.Machine.{Answer, State, Step, opened, refused}
+use Rattle.lt_world.specs.Disk.{LeavesNow}
+use Rattle.lt_machine.specs.Outside.{AreBesides, BelongsTo, HoldsEither, IsKept, LeavesSession, StandsOn, is_commit}
+use Rattle.lt_machine.specs.OverStore.{KeepsBundles, on_store}
+use Rattle.lt_words.specs.Reply.{Refusal, out_of_memory}
+use Rattle.lt_tables.specs.Pump.{Attaches}
+use Rattle.lt_machine.specs.Run.{AfterFault}
+use Rattle.lt_tables.specs.Query.{Command}
+use Rattle.lt_machine.specs.Sound.{FailedIsLater, FailedIsSound, IsSound, LeavesPart, Memory, Session, source_of}
+use Rattle.lt_machine.specs.Step.{Serves}
+use Rattle.lt_world.specs.Extents.{apart, are_apart}
+use Rattle.lt_storage.specs.Store.{Durable, Holds, Placing, extents_of}
 use Rattle.lt_laws.proofs.NeverFalls.{minimum_never_falls}
 use Rattle.lt_steps.proofs.AboveLaws.{memory_is_above}
 use Rattle.lt_steps.proofs.AllMemory.{memory_faults, memory_steps}

@@ -4,13 +4,14 @@ use Rattle.std.specs.Prelude.{IfSome, IsSome, IsTrue, None, Option, Some, is_som
 use Rattle.std.specs.List.{AllByRecursion, list_all}
 use Rattle.std.proofs.lemmas.Bool.{and_from, and_parts, false≢true}
 use Rattle.std.proofs.lemmas.List.{length-append, map-append}
-use Rattle.lt_model.specs.declared.Extent.{Extent}
-use Rattle.lt_model.specs.Machine.{is_write, refused}
-use Rattle.lt_model.specs.Sound.{Session}
-use Rattle.lt_model.specs.Outside.{AreBesides, AreTaken}
-use Rattle.lt_model.specs.Store.{Durable, IsFull, IsLowestGap, Placing, apart, end_of, is_gap}
+use Rattle.lt_terms.specs.declared.Extent.{Extent}
+use Rattle.lt_machine.specs.Machine.{is_write, refused}
+use Rattle.lt_machine.specs.Sound.{Session}
+use Rattle.lt_machine.specs.Outside.{AreBesides, AreTaken}
+use Rattle.lt_world.specs.Extents.{IsFull, IsLowestGap, apart, end_of, is_gap}
+use Rattle.lt_storage.specs.Store.{Durable, Placing}
 use Rattle.lt_laws.proofs.ListFacts.{all_at}
-use Rattle.lt_model.specs.Script.{Command}
+use Rattle.lt_tables.specs.Query.{Command}
 use Rattle.lt_steps.proofs.RisingLaws.{unbroken}
 use Rattle.lt_steps.specs.Rooms.{AreFor, HasAll, RoomIsTaken}
 

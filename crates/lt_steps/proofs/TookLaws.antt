@@ -1,10 +1,10 @@
 -- What a pump leaves that ended early: it took some items of a stream, and nothing else changed.
 use Rattle.std.proofs.Common.{ap, refl, subst, sym, true, ◌≡◌}
-use Rattle.lt_model.specs.Fair.{Feed}
-use Rattle.lt_model.specs.Machine.{State}
-use Rattle.lt_model.specs.Outside.{is_pump}
-use Rattle.lt_model.specs.Run.{TakesSome}
-use Rattle.lt_model.specs.Script.{Command, do_compact, do_deltas, do_flush, do_job_begin, do_job_drop, do_job_finish, do_job_step, do_page, do_pump, do_reopen, do_retain, do_retire, do_scan, do_schema, do_split, do_status}
+use Rattle.lt_world.specs.Feed.{Feed}
+use Rattle.lt_machine.specs.Machine.{State}
+use Rattle.lt_machine.specs.Outside.{is_pump}
+use Rattle.lt_machine.specs.Run.{TakesSome}
+use Rattle.lt_tables.specs.Query.{Command, do_compact, do_deltas, do_flush, do_job_begin, do_job_drop, do_job_finish, do_job_step, do_page, do_pump, do_reopen, do_retain, do_retire, do_scan, do_schema, do_split, do_status}
 use Rattle.lt_steps.proofs.StreamsRise.{OffsetsRise, moved_on}
 
 pub record TookSome (s s' : State) (c : Command) : Type 0 where

@@ -1,16 +1,17 @@
 -- A job over partitions that are split, and that may later be made one: its inputs stand wherever a partition meets its range.
 use Rattle.std.specs.Prelude.{IfSome, IsTrue, List, None, Some, [], zip, ℕ, ◌&&◌, ◌<◌, ◌==◌, ◌↔◌, ◌∷◌, ◌≡◌, ◌⊎◌}
 use Rattle.std.specs.List.{AllByRecursion, list_any}
-use Rattle.lt_model.specs.Claims.{Claim, whole_claims}
-use Rattle.lt_model.specs.Fair.{Feed}
-use Rattle.lt_model.specs.Key.{Range, common, in_range, meets}
-use Rattle.lt_model.specs.Log.{Change, Header}
-use Rattle.lt_model.specs.Machine.{Answer, Does, Job, State, Step, opened, part_job, ranges_of, refused}
-use Rattle.lt_model.specs.Reply.{Refusal}
-use Rattle.lt_model.specs.Run.{AfterFault}
-use Rattle.lt_model.specs.Script.{Command, Mode}
-use Rattle.lt_model.specs.Sound.{HasPart, JobStands, ListsAll}
-use Rattle.lt_model.specs.Store.{Durable, Part, merged_in}
+use Rattle.lt_machine.specs.Claims.{Claim, whole_claims}
+use Rattle.lt_world.specs.Feed.{Feed}
+use Rattle.lt_terms.specs.Key.{Range, common, in_range, meets}
+use Rattle.lt_terms.specs.Log.{Change, Header}
+use Rattle.lt_machine.specs.Machine.{Answer, Does, Job, State, Step, opened, part_job, ranges_of, refused}
+use Rattle.lt_words.specs.Reply.{Refusal}
+use Rattle.lt_machine.specs.Run.{AfterFault}
+use Rattle.lt_tables.specs.Query.{Command, Mode}
+use Rattle.lt_machine.specs.Sound.{HasPart, JobStands, ListsAll}
+use Rattle.lt_tables.specs.Pump.{Part}
+use Rattle.lt_storage.specs.Store.{Durable, merged_in}
 use Rattle.lt_steps.specs.Jobs.{keeps_job}
 
 -- a delta is an input of the job, or it holds in a range only versions above the job's minimum

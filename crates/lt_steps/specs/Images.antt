@@ -1,14 +1,14 @@
 -- What images hold beside a session: that they are sound for its feed, and honest, while commands that commit nothing are answered.
 use Rattle.std.specs.Prelude.{IfSome, IsSome, IsTrue, List, None, Some, [], false, ℕ, ◌≡◌, ◌⊎◌}
-use Rattle.lt_model.specs.Fair.{Feed, Grows}
-use Rattle.lt_model.specs.Log.{Change, Header, Item}
-use Rattle.lt_model.specs.Machine.{Answer, Does, State, Step, refused}
-use Rattle.lt_model.specs.Outside.{BelongsTo, LeavesSession, StandsOn, is_commit}
-use Rattle.lt_model.specs.Reply.{Refusal, out_of_memory}
-use Rattle.lt_model.specs.Run.{AfterFault}
-use Rattle.lt_model.specs.Script.{Command, Mode, do_job_begin, do_job_drop}
-use Rattle.lt_model.specs.Sound.{FailedIsSound, IsGood, IsSound, Session, source_of}
-use Rattle.lt_model.specs.Store.{Durable, HoldsAt, Placing, are_within, extents_of}
+use Rattle.lt_world.specs.Feed.{Feed, Grows}
+use Rattle.lt_terms.specs.Log.{Change, Header, Item}
+use Rattle.lt_machine.specs.Machine.{Answer, Does, State, Step, refused}
+use Rattle.lt_machine.specs.Outside.{BelongsTo, LeavesSession, StandsOn, is_commit}
+use Rattle.lt_words.specs.Reply.{Refusal, out_of_memory}
+use Rattle.lt_machine.specs.Run.{AfterFault}
+use Rattle.lt_tables.specs.Query.{Command, Mode, do_job_begin, do_job_drop}
+use Rattle.lt_machine.specs.Sound.{FailedIsSound, IsGood, IsSound, Session, source_of}
+use Rattle.lt_storage.specs.Store.{Durable, HoldsAt, Placing, are_within, extents_of}
 use Rattle.lt_steps.specs.Jobs.{keeps_job}
 
 -- a durable part stands whole in an image

@@ -1,20 +1,21 @@
 -- What a job has made after some keys, what a further step adds, and what each command between its beginning and its finish leaves of it.
 use Rattle.std.specs.Prelude.{Bool, IfSome, IsSome, IsTrue, List, None, Option, Some, [], drop, false, flat_map, if◌then◌else◌, length, map, nat_le, slice_get, take, true, ℕ, ◌+◌, ◌++◌, ◌==◌, ◌≡◌, ◌≤◌, ◌∷◌, ◌↔◌}
 use Rattle.std.specs.List.{list_all}
-use Rattle.lt_model.specs.declared.Extent.{Extent}
-use Rattle.lt_model.specs.declared.Progress.TheVariants as progress
-use Rattle.lt_model.specs.Bundle.{bundle_bytes, cut_groups, full_size, grouped}
-use Rattle.lt_model.specs.Fair.{Feed}
-use Rattle.lt_model.specs.Layout.{Leaf}
-use Rattle.lt_model.specs.Log.{Change, Header, Item}
-use Rattle.lt_model.specs.Machine.{Answer, Does, Job, State, Step, delta_of, job_after, job_keys, job_output, job_progress}
-use Rattle.lt_model.specs.Outside.{AreBesides, AreMade, MadeStand, bundles_made, bytes_of_bundle, full_bundles, input_keys, job_bundles, made_of, next_bundles}
-use Rattle.lt_model.specs.Reply.{Refusal}
-use Rattle.lt_model.specs.Run.{AfterFault}
-use Rattle.lt_model.specs.Script.{Command, do_compact, do_deltas, do_flush, do_job_begin, do_job_drop, do_job_finish, do_job_step, do_page, do_pump, do_reopen, do_retain, do_retire, do_scan, do_schema, do_split, do_status}
-use Rattle.lt_model.specs.Sound.{IsGood, Session, source_of}
-use Rattle.lt_model.specs.Store.{Delta, apart, bundle_lengths, extents_of, merged_in}
-use Rattle.lt_model.specs.Version.{RowVersion}
+use Rattle.lt_terms.specs.declared.Extent.{Extent}
+use Rattle.lt_terms.specs.declared.Progress.TheVariants as progress
+use Rattle.lt_storage.specs.Bundle.{bundle_bytes, cut_groups, full_size, grouped}
+use Rattle.lt_world.specs.Feed.{Feed}
+use Rattle.lt_terms.specs.Layout.{Leaf}
+use Rattle.lt_terms.specs.Log.{Change, Header, Item}
+use Rattle.lt_machine.specs.Machine.{Answer, Does, Job, State, Step, delta_of, job_after, job_keys, job_output, job_progress}
+use Rattle.lt_machine.specs.Outside.{AreBesides, AreMade, MadeStand, bundles_made, bytes_of_bundle, full_bundles, input_keys, job_bundles, made_of, next_bundles}
+use Rattle.lt_words.specs.Reply.{Refusal}
+use Rattle.lt_machine.specs.Run.{AfterFault}
+use Rattle.lt_tables.specs.Query.{Command, do_compact, do_deltas, do_flush, do_job_begin, do_job_drop, do_job_finish, do_job_step, do_page, do_pump, do_reopen, do_retain, do_retire, do_scan, do_schema, do_split, do_status}
+use Rattle.lt_machine.specs.Sound.{IsGood, Session, source_of}
+use Rattle.lt_world.specs.Extents.{apart}
+use Rattle.lt_storage.specs.Store.{Delta, bundle_lengths, extents_of, merged_in}
+use Rattle.lt_tables.specs.Version.{RowVersion}
 
 -- ---- laws: what a job has made
 

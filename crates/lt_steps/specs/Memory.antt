@@ -2,18 +2,21 @@
 -- keeps that it does.
 use Rattle.std.specs.Prelude.{IsTrue, List, None, Some, [], filter, flat_map, if◌then◌else◌, not, reverse, zip, ℕ, ◌∷◌, ◌≡◌}
 use Rattle.std.specs.List.{AllByRecursion}
-use Rattle.lt_model.specs.Fair.{AreShort, Feed, Grows}
-use Rattle.lt_model.specs.Key.{Range, below, in_range}
-use Rattle.lt_model.specs.Log.{Change, Header, Item, change_key, changes_of}
-use Rattle.lt_model.specs.Machine.{Answer, State, Step, StreamAt, Takes, cat_of, fresh, opened, ranges_of, refused, resumes, split_key, stream_at, with_items}
-use Rattle.lt_model.specs.Outside.{AsksInWindow, BelongsTo, Memory, is_deliverable}
-use Rattle.lt_model.specs.Query.{Literal, Query, answer}
-use Rattle.lt_model.specs.Row.{is_in_time, snapshot}
-use Rattle.lt_model.specs.Run.{Attaches}
-use Rattle.lt_model.specs.Schema.{Registered, Table, registered, table_named}
-use Rattle.lt_model.specs.Script.{do_retire, do_schema, do_split}
-use Rattle.lt_model.specs.Sound.{source_of}
-use Rattle.lt_model.specs.Store.{is_limit}
+use Rattle.lt_world.specs.Feed.{AreShort, Feed, Grows}
+use Rattle.lt_terms.specs.Key.{Range, below, in_range}
+use Rattle.lt_terms.specs.Log.{Change, Header, Item, change_key, changes_of}
+use Rattle.lt_tables.specs.Pump.{StreamAt, Takes}
+use Rattle.lt_machine.specs.Machine.{Answer, State, Step, cat_of, fresh, opened, ranges_of, refused, resumes, split_key, stream_at, with_items}
+use Rattle.lt_tables.specs.Pump.{is_deliverable}
+use Rattle.lt_machine.specs.Outside.{AsksInWindow, BelongsTo}
+use Rattle.lt_machine.specs.Sound.{Memory}
+use Rattle.lt_tables.specs.Query.{Literal, Query, answer}
+use Rattle.lt_tables.specs.Row.{is_in_time, snapshot}
+use Rattle.lt_tables.specs.Pump.{Attaches}
+use Rattle.lt_tables.specs.Schema.{Registered, Table, registered, table_named}
+use Rattle.lt_tables.specs.Query.{do_retire, do_schema, do_split}
+use Rattle.lt_machine.specs.Sound.{source_of}
+use Rattle.lt_storage.specs.Store.{is_limit}
 use Rattle.lt_pump.specs.Given.{all_given}
 
 -- ---- what commands make of it

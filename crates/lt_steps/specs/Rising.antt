@@ -1,16 +1,17 @@
 -- What never falls: the checkpoint of each key's partition, but at a reopening, and the minimum.
 use Rattle.std.specs.Prelude.{Bool, List, None, [], false, ℕ, ⊤, ◌∷◌, ◌≡◌, ◌≤◌, ◌⊎◌}
 use Rattle.std.specs.List.{AllByRecursion}
-use Rattle.lt_model.specs.Fair.{AreShort, Feed, Grows}
-use Rattle.lt_model.specs.Key.{Range}
-use Rattle.lt_model.specs.Laws.{CheckpointsNeverFall, MinimumNeverFalls}
-use Rattle.lt_model.specs.Log.{Header, Item}
-use Rattle.lt_model.specs.Machine.{Answer, CheckpointsStay, State, Step, cat_of, first_below, is_reopen, opened, refused}
-use Rattle.lt_model.specs.Reply.{Refusal, out_of_memory}
-use Rattle.lt_model.specs.Run.{AfterFault, Answers, Moment, Rules, Runs, last_moment}
-use Rattle.lt_model.specs.Script.{Command, Line, bad_line, skipped, spells_command}
-use Rattle.lt_model.specs.Sound.{FailedIsLater, FailedIsSound, Fronts, IsGood, source_of}
-use Rattle.lt_model.specs.Store.{Durable, IsLawfulPart}
+use Rattle.lt_world.specs.Feed.{AreShort, Feed, Grows}
+use Rattle.lt_terms.specs.Key.{Range}
+use Rattle.lt_machine.specs.Laws.{CheckpointsNeverFall, MinimumNeverFalls}
+use Rattle.lt_terms.specs.Log.{Header, Item}
+use Rattle.lt_machine.specs.Machine.{Answer, CheckpointsStay, State, Step, cat_of, first_below, is_reopen, opened, refused}
+use Rattle.lt_words.specs.Reply.{Refusal, out_of_memory}
+use Rattle.lt_machine.specs.Run.{AfterFault, Answers, Moment, Rules, Runs, last_moment}
+use Rattle.lt_tables.specs.Query.{Command}
+use Rattle.lt_words.specs.Script.{Line, bad_line, skipped, spells_command}
+use Rattle.lt_machine.specs.Sound.{FailedIsLater, FailedIsSound, Fronts, IsGood, source_of}
+use Rattle.lt_storage.specs.Store.{Durable, IsLawfulPart}
 
 abbrev pub MinimumRises : State → State → Type 0
 MinimumRises s s' = s.durable.minimum ≤ s'.durable.minimum

@@ -1,17 +1,18 @@
 -- Room: the lengths of what a command writes, piece by piece, and when a body that takes extents for them one after another is out of room.
 use Rattle.std.specs.Prelude.{Contains, List, None, Some, [], length, map, slice_get, take, true, ℕ, ⊤, ◌++◌, ◌≡◌, ◌∷◌}
 use Rattle.std.specs.List.{AllByRecursion}
-use Rattle.lt_model.specs.declared.Extent.{Extent}
-use Rattle.lt_model.specs.Fair.{Feed}
-use Rattle.lt_model.specs.Log.{Change, Header, Item}
-use Rattle.lt_model.specs.Machine.{Answer, Does, Job, State, cat_of, delta_of, flush_id, flushed_lists, is_write, job_output, output_id, part_job, pending_of, refused}
-use Rattle.lt_model.specs.Outside.{AreBesides, AreTaken, IsOutOfRoom, LacksRoom, commit_lengths, live_extents, piece_lengths}
-use Rattle.lt_model.specs.Query.{Literal}
-use Rattle.lt_model.specs.Schema.{Catalogue}
-use Rattle.lt_model.specs.Script.{Command, Mode, do_compact, do_flush, do_job_finish, do_retain, do_retire, do_schema, do_split}
-use Rattle.lt_model.specs.Sound.{Fronts, HasPart, IsGood, Session, source_of}
-use Rattle.lt_model.specs.Store.{BundleEntry, Delta, Durable, HasPlaced, HasTables, IsFull, IsLowestGap, Manifest, Placing, TableDelta, TableIndex, bundle_lengths, first_key, index_bytes, index_length, last_key, manifest_bytes, manifest_length}
-use Rattle.lt_model.specs.Version.{RowVersion}
+use Rattle.lt_terms.specs.declared.Extent.{Extent}
+use Rattle.lt_world.specs.Feed.{Feed}
+use Rattle.lt_terms.specs.Log.{Change, Header, Item}
+use Rattle.lt_machine.specs.Machine.{Answer, Does, Job, State, cat_of, delta_of, flush_id, flushed_lists, is_write, job_output, output_id, part_job, pending_of, refused}
+use Rattle.lt_machine.specs.Outside.{AreBesides, AreTaken, IsOutOfRoom, LacksRoom, commit_lengths, live_extents, piece_lengths}
+use Rattle.lt_tables.specs.Query.{Literal}
+use Rattle.lt_tables.specs.Schema.{Catalogue}
+use Rattle.lt_tables.specs.Query.{Command, Mode, do_compact, do_flush, do_job_finish, do_retain, do_retire, do_schema, do_split}
+use Rattle.lt_machine.specs.Sound.{Fronts, HasPart, IsGood, Session, source_of}
+use Rattle.lt_world.specs.Extents.{IsFull, IsLowestGap}
+use Rattle.lt_storage.specs.Store.{BundleEntry, Delta, Durable, HasPlaced, HasTables, Manifest, Placing, TableDelta, TableIndex, bundle_lengths, first_key, index_bytes, index_length, last_key, manifest_bytes, manifest_length}
+use Rattle.lt_tables.specs.Version.{RowVersion}
 
 -- ---- lengths do not go by places
 

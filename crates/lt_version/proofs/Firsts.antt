@@ -6,9 +6,9 @@ use Rattle.std.proofs.lemmas.List.{drop-drop}
 use Rattle.std.proofs.lemmas.Option.{slice_get-map}
 use Rattle.lt_core.specs.View.{view_scalar}
 use Rattle.lt_core.specs.declared.leaf.Scalar.{Scalar}
-use Rattle.lt_model.specs.Layout.{unset}
-use Rattle.lt_model.specs.Outside.{cell_at, first_version}
-use Rattle.lt_model.specs.Version.{RowVersion}
+use Rattle.lt_terms.specs.Layout.{unset}
+use Rattle.lt_tables.specs.Version.{cell_at, first_version}
+use Rattle.lt_tables.specs.Version.{RowVersion}
 use Rattle.lt_version.specs.declared.row_version.RowVersion.{RowVersion as CodeVersion}
 use Rattle.lt_version.specs.View.{first_cell, view_version}
 

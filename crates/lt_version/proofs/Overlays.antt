@@ -3,8 +3,8 @@ use Rattle.std.proofs.Common.{List, [], add-one, ap, ap₂, arith, get_or, if◌
 use Rattle.std.proofs.lemmas.List.{length-map, length-take-le, map-append}
 use Rattle.lt_core.specs.View.{view_cells, view_scalar}
 use Rattle.lt_core.specs.declared.leaf.Scalar.{Scalar}
-use Rattle.lt_model.specs.Layout.{Cell, is_unset}
-use Rattle.lt_model.specs.Version.{overlay}
+use Rattle.lt_terms.specs.Layout.{Cell, is_unset}
+use Rattle.lt_tables.specs.Version.{overlay}
 
 abbrev pub over : Cell → Cell → Cell
 over a b = if is_unset b then a else b

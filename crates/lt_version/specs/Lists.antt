@@ -3,8 +3,8 @@ use Rattle.std.specs.Prelude.{IsTrue, List, [], drop, map, suc, zero, ℕ, ◌�
 use Rattle.std.proofs.lemmas.Bool.{and_parts}
 use Rattle.lt_core.specs.declared.leaf.Leaf.{Leaf as CodeLeaf}
 use Rattle.lt_core.specs.View.{view_layout}
-use Rattle.lt_model.specs.Layout.{Leaf}
-use Rattle.lt_model.specs.Version.{AreVersions, RowVersion, is_ordered, stands_before}
+use Rattle.lt_terms.specs.Layout.{Leaf}
+use Rattle.lt_tables.specs.Version.{AreVersions, RowVersion, is_ordered, stands_before}
 use Rattle.lt_version.specs.View.{view_version}
 use Rattle.lt_version.specs.declared.row_version.RowVersion.{RowVersion as CodeVersion}
 use Rattle.lt_version.specs.declared.list_versions.ListVersions.{ListVersions}

@@ -2,10 +2,10 @@
 use Rattle.std.specs.Prelude.{List, ℕ}
 use Rattle.std.specs.Option.{option_map_or}
 use Rattle.lt_core.specs.View.{view_cells}
-use Rattle.lt_model.specs.declared.Op.{Op}
-use Rattle.lt_model.specs.Layout.{Cell, unset}
-use Rattle.lt_model.specs.Outside.{cell_at, first_version}
-use Rattle.lt_model.specs.Version as model
+use Rattle.lt_terms.specs.declared.Op.{Op}
+use Rattle.lt_terms.specs.Layout.{Cell, unset}
+use Rattle.lt_tables.specs.Version.{cell_at, first_version}
+use Rattle.lt_tables.specs.Version as model
 use Rattle.lt_version.specs.declared.row_version.RowVersion.{RowVersion}
 use Rattle.lt_version.specs.declared.versions.Head.{Head}
 

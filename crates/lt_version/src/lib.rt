@@ -3,8 +3,6 @@
 
 mod list_versions;
 mod row_version;
-#[cfg(test)]
-mod tests;
 mod versions;
 
 pub use list_versions::ListVersions;

@@ -2,8 +2,8 @@
 
 ghost use Rattle.std.specs.Prelude.{◌≡◌, ◌<◌, length, drop, map, option_map, OnOk};
 ghost use Rattle.lt_core.specs.View.{view_cell, view_layout};
-ghost use Rattle.lt_model.specs.Outside.{first_version};
-ghost use Rattle.lt_model.specs.Version.{AreVersions};
+ghost use Rattle.lt_tables.specs.Version.{first_version};
+ghost use Rattle.lt_tables.specs.Version.{AreVersions};
 ghost use Rattle.std.proofs.Props.{props};
 ghost use Rattle.lt_version.specs.View.{first_cell, name_of, view_head, view_version};
 

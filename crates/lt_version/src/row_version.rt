@@ -2,12 +2,12 @@
 
 ghost use Rattle.std.specs.Prelude.{◌≡◌, ◌<◌, length, if◌then◌else◌, IfOk};
 ghost use Rattle.lt_core.specs.View.{view_cells, view_scalar};
-ghost use Rattle.lt_model.specs.Layout.{is_unset};
-ghost use Rattle.lt_model.specs.Version as version;
+ghost use Rattle.lt_terms.specs.Layout.{is_unset};
+ghost use Rattle.lt_tables.specs.Version as version;
 ghost use Rattle.lt_version.specs.View.{view_version};
 
 use lt_core::{Cells, KeyBytes, List, Memory, Scalar, Ts};
-use lt_model::Op;
+use lt_terms::Op;
 use std::alloc::Global;
 
 /// A change of a row: its key's bytes, its timestamp, what it does, and a cell for each leaf of a layout.
@@ -35,12 +35,13 @@ impl RowVersion {
 
 /// One version that does what the older and then the newer one do, with the newer one's timestamp. An insert or a delete stands alone;
 /// an update lays its set cells over an insert or an update, and leaves a delete a delete (docs/definitions.md, "Lists of row versions").
-#[tactic(auto, unfolding(lt_model::specs::Version::compose))]
+#[tactic(auto, unfolding(lt_tables::specs::Version::compose))]
 pub fn compose(alloc: Global, older: &RowVersion, newer: &RowVersion) -> Result<RowVersion, Memory>
     requires key { older.now.key ≡ newer.now.key }
     requires cells { length older.now.cells ≡ length newer.now.cells }
     requires later { older.now.ts < newer.now.ts }
-    ensures { IfOk result (λ both. view_version both ≡ version.compose (view_version older.now) (view_version newer.now)) }
+    ensures { IfOk result (λ both. view_version both ≡ version.compose (view_version older.now)
+        (view_version newer.now)) }
 {
     match newer.op {
         Op::Insert | Op::Delete => newer.copy(),
@@ -74,7 +75,8 @@ fn overlaid(alloc: Global, older: &Cells, newer: &Cells) -> Result<Cells, Memory
 
 /// The newer cell where it is set.
 fn over<'a>(was: &'a Scalar, now: &'a Scalar) -> &'a Scalar
-    ensures { view_scalar result.now ≡ (if is_unset (view_scalar now.now) then view_scalar was.now else view_scalar now.now) }
+    ensures { view_scalar result.now ≡
+        (if is_unset (view_scalar now.now) then view_scalar was.now else view_scalar now.now) }
 {
     match now {
         Scalar::Unset => was,

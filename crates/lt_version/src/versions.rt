@@ -2,13 +2,13 @@
 
 ghost use Rattle.std.specs.Prelude.{◌≡◌, ◌<◌, ℕ, List, length, drop, option_map, OnOk};
 ghost use Rattle.lt_core.specs.View.{view_cell, view_layout};
-ghost use Rattle.lt_model.specs.Layout as layouts;
-ghost use Rattle.lt_model.specs.Outside.{first_version};
-ghost use Rattle.lt_model.specs.Version.{AreVersions, RowVersion};
+ghost use Rattle.lt_terms.specs.Layout as layouts;
+ghost use Rattle.lt_tables.specs.Version.{first_version};
+ghost use Rattle.lt_tables.specs.Version.{AreVersions, RowVersion};
 ghost use Rattle.lt_version.specs.View.{first_cell, name_of, view_head};
 
 use lt_core::{Cell, Layout, Memory, Ts};
-use lt_model::Op;
+use lt_terms::Op;
 
 /// The name of a row version: its key's bytes and its timestamp; and what it does.
 #[derive(Clone, Copy, Debug)]

@@ -4,12 +4,12 @@ use Rattle.std.specs.Prelude.{Contains, IsTrue, None, Option, Some, filter, find
 use Rattle.std.specs.List.{AllByRecursion, list_any}
 use Rattle.std.specs.Option.{option_map_or}
 use Rattle.std.proofs.lemmas.Bool.{and_from}
-use Rattle.lt_model.specs.Layout.{Cell, Leaf, are_lawful, bool_cell, cell_to, coerce, is_unset, lacking, layout_of, null_cell, same_leaf, sets, suits, unset, with_cells}
-use Rattle.lt_model.specs.Log.{Change}
-use Rattle.lt_model.specs.Outside.{is_deliverable}
-use Rattle.lt_model.specs.Schema.{Catalogue, IsCatalogue, carriers}
-use Rattle.lt_model.specs.Store.{IsLawfulTable, TableDelta}
-use Rattle.lt_model.specs.Version.{AreVersions, RowVersion, coerce_all, coerced, is_version, seen}
+use Rattle.lt_terms.specs.Layout.{Cell, Leaf, are_lawful, bool_cell, cell_to, coerce, is_unset, lacking, layout_of, null_cell, same_leaf, sets, suits, unset, with_cells}
+use Rattle.lt_terms.specs.Log.{Change}
+use Rattle.lt_tables.specs.Pump.{is_deliverable}
+use Rattle.lt_tables.specs.Schema.{Catalogue, IsCatalogue, carriers}
+use Rattle.lt_storage.specs.Store.{IsLawfulTable, TableDelta}
+use Rattle.lt_tables.specs.Version.{AreVersions, RowVersion, coerce_all, coerced, is_version, seen}
 use Rattle.lt_laws.proofs.SeenLaws.{to_own}
 use Rattle.lt_laws.proofs.CatalogueSteps.{coerce_length}
 use Rattle.lt_laws.proofs.ClipLaws.{coerce-ordered}
@@ -17,10 +17,12 @@ use Rattle.lt_laws.proofs.CoerceLaws.{IsServed, suits_rank}
 use Rattle.lt_laws.proofs.CollapseLaws.{goes_made, made_version}
 use Rattle.lt_laws.proofs.JobOutput.{layout_columns}
 use Rattle.lt_laws.proofs.LeafLaws.{IsMarked}
-use Rattle.lt_laws.proofs.ListFacts.{all_filter, all_from, all_map, all_to_map}
+use Rattle.lt_codecs.proofs.ListFacts.{all_map}
+use Rattle.lt_lemmas.proofs.ListFacts.{all_filter, all_from}
+use Rattle.lt_laws.proofs.ListFacts.{all_to_map}
 use Rattle.lt_laws.proofs.ScanLaws.{any_of}
 use Rattle.lt_laws.proofs.TableGrowth.{are_columns, cols}
-use Rattle.lt_laws.proofs.TableLaws.{fine_table}
+use Rattle.lt_lemmas.proofs.TableLaws.{fine_table}
 use Rattle.lt_laws.proofs.VersionGrowth.{widens_itself}
 use Rattle.lt_laws.proofs.WidenedStore.{known_carriers, lawful_fit, served}
 use Rattle.lt_version_laws.specs.Logged.{logged_layout}

@@ -4,25 +4,32 @@ use Rattle.std.specs.Prelude.{Contains, IsTrue, Option, Some, filter, map, nat_l
 use Rattle.std.specs.List.{AllByRecursion}
 use Rattle.std.specs.Option.{option_map_or}
 use Rattle.std.proofs.lemmas.Bool.{and_from}
-use Rattle.lt_model.specs.Bundle.{cut}
-use Rattle.lt_model.specs.Fair.{Feed, has_change_shape}
-use Rattle.lt_model.specs.Key.{Range}
-use Rattle.lt_model.specs.Log.{Change}
-use Rattle.lt_model.specs.Machine as machine
-use Rattle.lt_model.specs.Machine.{State, cat_of, delta_of, flush_id, flushed_lists, not_empty, pending_of, ranges_of, seen_pending, table_delta, table_numbers}
-use Rattle.lt_model.specs.Outside.{BelongsTo, Memory, is_deliverable, memory_versions, name_of}
-use Rattle.lt_model.specs.Row.{is_in_time}
-use Rattle.lt_model.specs.Schema.{Catalogue, IsCatalogue, Registered, Table, carriers, registered, table_numbered, when}
-use Rattle.lt_model.specs.Sound.{PendingOfAll, names_rise, passed, source_of}
-use Rattle.lt_model.specs.Store.{AreLawfulTables, Durable, IsKeyBytes, IsLawfulTable, Part, TableDelta}
-use Rattle.lt_model.specs.Version.{RowVersion, merge, seen}
+use Rattle.lt_storage.specs.Bundle.{cut}
+use Rattle.lt_world.specs.Feed.{Feed}
+use Rattle.lt_tables.specs.Fair.{has_change_shape}
+use Rattle.lt_terms.specs.Key.{Range}
+use Rattle.lt_terms.specs.Log.{Change}
+use Rattle.lt_machine.specs.Machine as machine
+use Rattle.lt_machine.specs.Machine.{State, cat_of, delta_of, flush_id, flushed_lists, not_empty, pending_of, ranges_of, seen_pending, table_delta, table_numbers}
+use Rattle.lt_tables.specs.Pump.{is_deliverable, name_of}
+use Rattle.lt_machine.specs.Outside.{BelongsTo, memory_versions}
+use Rattle.lt_machine.specs.Sound.{Memory}
+use Rattle.lt_tables.specs.Row.{is_in_time}
+use Rattle.lt_tables.specs.Schema.{Catalogue, IsCatalogue, Registered, Table, carriers, registered, table_numbered, when}
+use Rattle.lt_tables.specs.Pump.{names_rise}
+use Rattle.lt_machine.specs.Sound.{PendingOfAll, passed, source_of}
+use Rattle.lt_tables.specs.Pump.{Part}
+use Rattle.lt_storage.specs.Store.{AreLawfulTables, Durable, IsKeyBytes, IsLawfulTable, TableDelta}
+use Rattle.lt_tables.specs.Version.{RowVersion, merge, seen}
 use Rattle.lt_laws.proofs.MemoryLaws.{memory_seen}
 use Rattle.lt_laws.proofs.AnswerLaws.{IsSound, sound_from}
-use Rattle.lt_laws.proofs.ListFacts.{all_at, all_from, all_map, find_held, from_map, in_map}
+use Rattle.lt_codecs.proofs.ListFacts.{all_map}
+use Rattle.lt_lemmas.proofs.ListFacts.{all_from, find_held}
+use Rattle.lt_laws.proofs.ListFacts.{all_at, from_map, in_map}
 use Rattle.lt_laws.proofs.NewDelta.{number_known, part_made, tables_rise}
 use Rattle.lt_laws.proofs.RangeLaws.{source_in_time}
 use Rattle.lt_laws.proofs.ScanLemmas.{from-filter, in-filter}
-use Rattle.lt_laws.proofs.VersionGrowth.{its_number}
+use Rattle.lt_lemmas.proofs.VersionGrowth.{its_number}
 use Rattle.lt_laws.proofs.WidenedRows.{sound_shape}
 use Rattle.lt_version_laws.specs.Flushes.{FlushLaws, flushed_delta, memory_tables}
 use Rattle.lt_version_laws.specs.MemoryLists.{AreLogged, HaveVersions, carried_rows}

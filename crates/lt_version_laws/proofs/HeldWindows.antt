@@ -5,18 +5,23 @@ use Rattle.std.specs.List.{AllByRecursion, list_all}
 use Rattle.std.specs.Ordering.{is_lt}
 use Rattle.std.proofs.lemmas.Bool.{and_parts, false≢true}
 use Rattle.std.proofs.lemmas.Cmp.{nat_list_cmp_total, tied_itself}
-use Rattle.lt_model.specs.Key.{Range, below, common, in_range, is_below_high, is_empty_range, meets, ranges_from, rise, same_key, tile}
-use Rattle.lt_model.specs.Log.{Change}
-use Rattle.lt_model.specs.Machine.{State, cat_of, ranges_of}
-use Rattle.lt_model.specs.Outside.{Memory, held_with, memory_versions}
-use Rattle.lt_model.specs.Store.{IsLawfulPart, Part, bare_manifest, carried_versions, deltas_of, is_part_entry, stored}
-use Rattle.lt_model.specs.Version.{RowVersion, asof, clip, is_ordered, merge, stands_before}
-use Rattle.lt_laws.proofs.SnapshotLaws.{apart}
-use Rattle.lt_laws.proofs.ClipLaws.{below-upto, clip-clip, filter-swap, key-trans}
-use Rattle.lt_laws.proofs.ListFacts.{all_append, all_from, all_map}
-use Rattle.lt_laws.proofs.MergeLaws.{Above, clip-merge, merge-ordered, ordered-above, ordered-cons, ordered-tail}
+use Rattle.lt_terms.specs.Key.{Range, below, common, in_range, is_below_high, is_empty_range, meets, ranges_from, rise, same_key, tile}
+use Rattle.lt_terms.specs.Log.{Change}
+use Rattle.lt_machine.specs.Machine.{State, cat_of, ranges_of}
+use Rattle.lt_machine.specs.Sound.{Memory}
+use Rattle.lt_machine.specs.Outside.{held_with, memory_versions}
+use Rattle.lt_tables.specs.Pump.{Part}
+use Rattle.lt_storage.specs.Store.{IsLawfulPart, bare_manifest, carried_versions, deltas_of, is_part_entry, stored}
+use Rattle.lt_tables.specs.Version.{RowVersion, asof, clip, is_ordered, merge, stands_before}
+use Rattle.lt_lemmas.proofs.SnapshotLaws.{apart}
+use Rattle.lt_lemmas.proofs.ClipLaws.{below-upto, key-trans}
+use Rattle.lt_laws.proofs.ClipLaws.{clip-clip, filter-swap}
+use Rattle.lt_codecs.proofs.ListFacts.{all_append, all_map}
+use Rattle.lt_lemmas.proofs.ListFacts.{all_from}
+use Rattle.lt_lemmas.proofs.MergeLaws.{Above, ordered-above, ordered-cons, ordered-tail}
+use Rattle.lt_laws.proofs.MergeLaws.{clip-merge, merge-ordered}
 use Rattle.lt_laws.proofs.MomentLaws.{asof-clip}
-use Rattle.lt_laws.proofs.RangeLaws.{tile_rises}
+use Rattle.lt_lemmas.proofs.RangeLaws.{tile_rises}
 use Rattle.lt_laws.proofs.ReadLaws.{or_left}
 use Rattle.lt_laws.proofs.WidenedStore.{named_lawful}
 use Rattle.lt_version_laws.specs.MemoryLists.{AreLogged, HaveVersions}

@@ -3,23 +3,25 @@ use Rattle.std.proofs.Common.{Bool, List, [], ap, arith, eq-eqb, eqb-true, lengt
 use Rattle.std.specs.Prelude.{IsTrue, map, nat_le, not, ◌&&◌, ◌==◌, ◌||◌}
 use Rattle.std.specs.List.{AllByRecursion, list_all}
 use Rattle.std.proofs.lemmas.Bool.{and_from, and_parts}
-use Rattle.lt_model.specs.declared.Op.{Op}
-use Rattle.lt_model.specs.Key.{max_key, same_key}
-use Rattle.lt_model.specs.Layout.{Cell, Leaf, agree, are_lawful, is_unset, suits, with_cells}
-use Rattle.lt_model.specs.Value.{is_timestamp}
-use Rattle.lt_model.specs.Version.{AreVersions, RowVersion, asof, collapse, compose, is_delete, is_insert, is_version, merge, overlay, rolled_up}
+use Rattle.lt_terms.specs.declared.Op.{Op}
+use Rattle.lt_terms.specs.Key.{max_key, same_key}
+use Rattle.lt_terms.specs.Layout.{Cell, Leaf, agree, are_lawful, is_unset, suits, with_cells}
+use Rattle.lt_terms.specs.Value.{is_timestamp}
+use Rattle.lt_tables.specs.Version.{AreVersions, RowVersion, asof, collapse, compose, is_delete, is_insert, is_version, merge, overlay, rolled_up}
 use Rattle.lt_laws.proofs.LaidLaws.{over_agrees, over_fits}
 use Rattle.lt_laws.proofs.CoerceLaws.{over, overlay_length}
 use Rattle.lt_laws.proofs.CollapseLaws.{collapse_all, rolled_all}
 use Rattle.lt_laws.proofs.JobOutput.{merged_member}
-use Rattle.lt_laws.proofs.ListFacts.{all_at, all_both, all_filter, all_from, all_map, all_of_map, all_to_map}
+use Rattle.lt_codecs.proofs.ListFacts.{all_both, all_map}
+use Rattle.lt_lemmas.proofs.ListFacts.{all_filter, all_from}
+use Rattle.lt_laws.proofs.ListFacts.{all_at, all_of_map, all_to_map}
 use Rattle.lt_laws.proofs.MergeLaws.{merge-ordered}
 use Rattle.lt_laws.proofs.MomentLaws.{asof-ordered, collapse-ordered}
 use Rattle.lt_laws.proofs.NewDelta.{tests_hold}
 use Rattle.lt_laws.proofs.ReadLaws.{all_tests}
 use Rattle.lt_version_laws.specs.Steps.{LawfulSteps, MomentSteps}
 use Rattle.lt_version_laws.proofs.MomentSteps.{asof_composes, asof_gives, asof_key, asof_passes, asof_skips, collapse_composes, collapse_gives, collapse_key, collapse_keeps, collapse_passes, composed_alone, composed_ordered, next_older}
-use Rattle.lt_model.specs.declared.Op.TheVariants as ops
+use Rattle.lt_terms.specs.declared.Op.TheVariants as ops
 
 -- ---- one list of cells laid over another
 

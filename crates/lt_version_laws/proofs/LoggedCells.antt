@@ -4,27 +4,30 @@ use Rattle.std.specs.Prelude.{Contains, IsTrue, None, Option, Some, find, map, n
 use Rattle.std.specs.List.{AllByRecursion}
 use Rattle.std.specs.Option.{option_map_or}
 use Rattle.std.proofs.lemmas.Bool.{and_from, and_parts, false≢true}
-use Rattle.lt_model.specs.declared.Rank.{Rank}
-use Rattle.lt_model.specs.Value.{Fields, Value, bool_value, bytes_value, field_value, int_value, no_fields, null_value, rises_above, struct_value, text_value, value_at}
-use Rattle.lt_model.specs.Kind.{FieldKinds, Kind, enumeration, field_kind, has_shape, have_shapes, kind_at, no_kinds, plain, structured}
-use Rattle.lt_model.specs.Conversion.{at_rank, conv}
-use Rattle.lt_model.specs.Layout.{Cell, Leaf, bool_cell, cell_of, cell_to, coerce, field_of, flatten, is_structure, is_unset, lacking, layout_of, leaf_cell, null_cell, same_leaf, setting, sets, suits, unset, value_along}
-use Rattle.lt_model.specs.Laws.{lies_within}
-use Rattle.lt_model.specs.Schema.{Column, Registered, Table, clash, column_numbered, registered}
+use Rattle.lt_terms.specs.declared.Rank.{Rank}
+use Rattle.lt_terms.specs.Value.{Fields, Value, bool_value, bytes_value, field_value, int_value, no_fields, null_value, rises_above, struct_value, text_value, value_at}
+use Rattle.lt_terms.specs.Kind.{FieldKinds, Kind, enumeration, field_kind, has_shape, have_shapes, kind_at, no_kinds, plain, structured}
+use Rattle.lt_terms.specs.Conversion.{at_rank, conv}
+use Rattle.lt_terms.specs.Layout.{Cell, Leaf, bool_cell, cell_of, cell_to, coerce, field_of, flatten, is_structure, is_unset, lacking, layout_of, leaf_cell, null_cell, same_leaf, setting, sets, suits, unset, value_along}
+use Rattle.lt_machine.specs.Laws.{lies_within}
+use Rattle.lt_tables.specs.Schema.{Column, Registered, Table, clash, column_numbered, registered}
 use Rattle.lt_laws.proofs.CarrierLaws.{clash_at, shape_within}
 use Rattle.lt_laws.proofs.CoerceLaws.{Cells, beside, cell_as, cell_for, cell_set, found_beside, map_same, sets_at, unset_to, with_own}
-use Rattle.lt_laws.proofs.ConversionLemmas.{is_rising}
+use Rattle.lt_lemmas.proofs.ConversionLemmas.{is_rising}
 use Rattle.lt_laws.proofs.FlattenLemmas.{cell_back}
 use Rattle.lt_laws.proofs.LeafLaws.{AreColumns, IsMarked, Mark, all_marked, found_leaf, leaf_at, leaf_found, leaf_in, leaf_in_layout, leaf_is, leaf_of, mark_of}
-use Rattle.lt_laws.proofs.ListFacts.{all_at, all_map, all_to_map, find_held, in_map}
+use Rattle.lt_codecs.proofs.ListFacts.{all_map}
+use Rattle.lt_lemmas.proofs.ListFacts.{find_held}
+use Rattle.lt_laws.proofs.ListFacts.{all_at, all_to_map, in_map}
 use Rattle.lt_laws.proofs.ReadLaws.{shape_at}
 use Rattle.lt_laws.proofs.ScanLaws.{any_of}
 use Rattle.lt_laws.proofs.ScanLemmas.{at_carrier, kind_for, leaf_cell-set, setting-map}
 use Rattle.lt_laws.proofs.SeenLaws.{AreLaid, laid_agrees, suits_plain}
 use Rattle.lt_laws.proofs.TableGrowth.{LeafOf, are_columns, cell_in, cell_none, cols, leaf_in_cols, none_set, set_at, setting_held}
-use Rattle.lt_laws.proofs.TableLaws.{FineColumns, IsFineKind, IsFineTable, carrier_takes}
+use Rattle.lt_lemmas.proofs.TableLaws.{FineColumns, IsFineKind, IsFineTable}
+use Rattle.lt_laws.proofs.TableLaws.{carrier_takes}
 use Rattle.lt_laws.proofs.WidenLaws.{along, bool_to, cell_lacks, lies_along, lies_shape, next_kind, presence_bool}
-use Rattle.lt_model.specs.declared.Rank.TheVariants as rank
+use Rattle.lt_terms.specs.declared.Rank.TheVariants as rank
 
 -- ---- a value of a kind's shape, along a path
 

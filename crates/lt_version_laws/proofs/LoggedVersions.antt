@@ -5,34 +5,35 @@ use Rattle.std.specs.List.{AllByRecursion, list_all}
 use Rattle.std.specs.Option.{option_map_or}
 use Rattle.std.proofs.lemmas.Bool.{and_from, and_parts, false≢true}
 use Rattle.std.proofs.lemmas.List.{length-append}
-use Rattle.lt_model.specs.declared.KeyKind.{KeyKind}
-use Rattle.lt_model.specs.declared.Op.{Op}
-use Rattle.lt_model.specs.Value.{Value, is_timestamp, rises_above}
-use Rattle.lt_model.specs.Kind.{Kind, has_shape, nesting}
-use Rattle.lt_model.specs.Key.{KeyPart, is_key_of, key_bytes, max_key, part_bytes}
-use Rattle.lt_model.specs.Laws.{are_settings}
-use Rattle.lt_model.specs.Layout.{Cell, Leaf, are_lawful, coerce, flatten, is_unset, layout_of, setting, unflatten}
-use Rattle.lt_model.specs.Log.{Change, change_key, u32, is_change}
-use Rattle.lt_model.specs.Fair.{has_change_shape}
-use Rattle.lt_model.specs.Outside.{is_deliverable}
-use Rattle.lt_model.specs.Schema.{Became, Catalogue, Column, IsCatalogue, KeyColumn, Registered, Table, carriers, key_kinds, registered, sets_shape, table_numbered, version_layout}
-use Rattle.lt_model.specs.Version.{RowVersion, as_logged, carried, coerced, is_delete, is_version, seen}
+use Rattle.lt_terms.specs.declared.KeyKind.{KeyKind}
+use Rattle.lt_terms.specs.declared.Op.{Op}
+use Rattle.lt_terms.specs.Value.{Value, is_timestamp, rises_above}
+use Rattle.lt_terms.specs.Kind.{Kind, has_shape, nesting}
+use Rattle.lt_terms.specs.Key.{KeyPart, is_key_of, key_bytes, max_key, part_bytes}
+use Rattle.lt_machine.specs.Laws.{are_settings}
+use Rattle.lt_terms.specs.Layout.{Cell, Leaf, are_lawful, coerce, flatten, is_unset, layout_of, setting, unflatten}
+use Rattle.lt_terms.specs.Log.{Change, change_key, u32, is_change}
+use Rattle.lt_tables.specs.Fair.{has_change_shape}
+use Rattle.lt_tables.specs.Pump.{is_deliverable}
+use Rattle.lt_tables.specs.Schema.{Became, Catalogue, Column, IsCatalogue, KeyColumn, Registered, Table, carriers, key_kinds, registered, sets_shape, table_numbered, version_layout}
+use Rattle.lt_tables.specs.Version.{RowVersion, as_logged, carried, coerced, is_delete, is_version, seen}
 use Rattle.lt_codecs.proofs.KeyLaws.{keys_prefix_free}
 use Rattle.lt_laws.proofs.CatalogueLaws.{became_lawful, became_stays}
-use Rattle.lt_laws.proofs.ConversionLemmas.{is_rising}
+use Rattle.lt_lemmas.proofs.ConversionLemmas.{is_rising}
 use Rattle.lt_laws.proofs.FlattenLemmas.{flattens_back-columns}
-use Rattle.lt_laws.proofs.ListFacts.{all_map, all_to_map}
+use Rattle.lt_codecs.proofs.ListFacts.{all_map}
+use Rattle.lt_laws.proofs.ListFacts.{all_to_map}
 use Rattle.lt_laws.proofs.NewDelta.{tests_hold}
 use Rattle.lt_laws.proofs.ReadLaws.{all_tests, set_shapes, shape_at}
 use Rattle.lt_laws.proofs.SeenLaws.{laid_lawful, unset_all}
 use Rattle.lt_laws.proofs.TableGrowth.{cell_in, cols, set_at}
-use Rattle.lt_laws.proofs.TableLaws.{FineColumns, IsFineKind, fine_table}
-use Rattle.lt_codecs.proofs.LogLaws.{change_fits}
+use Rattle.lt_lemmas.proofs.TableLaws.{FineColumns, IsFineKind, fine_table}
+use Rattle.lt_codecs.proofs.LogTests.{change_fits}
 use Rattle.lt_laws.proofs.WidenedRows.{carried_as}
 use Rattle.lt_laws.proofs.WidenedStore.{known_carriers}
 use Rattle.lt_version_laws.specs.Logged.{LoggedLaws, logged, logged_layout, version_columns}
 use Rattle.lt_version_laws.proofs.LoggedCells.{SetsColumn, columns_of, kind_of_column, logged_goes, logged_laid, seen_laid, sets_column, version_columns_are}
-use Rattle.lt_model.specs.declared.Op.TheVariants as ops
+use Rattle.lt_terms.specs.declared.Op.TheVariants as ops
 
 -- ---- the table and version of a change that may be delivered
 

@@ -4,10 +4,10 @@ use Rattle.std.specs.Prelude.{None, Option, Some, filter, not, ⊤, ◌&&◌}
 use Rattle.std.specs.List.{AllByRecursion, list_all}
 use Rattle.std.specs.List.Sorted.{IsPartitionPoint, IsPartitionedBy}
 use Rattle.std.proofs.lemmas.Bool.{and_parts}
-use Rattle.lt_model.specs.Key.{Range, below, is_below_high, is_empty_range}
-use Rattle.lt_model.specs.Store.{BundleEntry, entries_rise, entry_meets}
-use Rattle.lt_laws.proofs.ClipLaws.{below-upto, key-trans}
-use Rattle.lt_laws.proofs.ListFacts.{all_both, all_map}
+use Rattle.lt_terms.specs.Key.{Range, below, is_below_high, is_empty_range}
+use Rattle.lt_storage.specs.Store.{BundleEntry, entries_rise, entry_meets}
+use Rattle.lt_lemmas.proofs.ClipLaws.{below-upto, key-trans}
+use Rattle.lt_codecs.proofs.ListFacts.{all_both, all_map}
 use Rattle.lt_version_laws.specs.Meets.{AreEntries, MeetSteps}
 use Rattle.lt_version_laws.proofs.MomentSteps.{and_no}
 use Rattle.lt_version_laws.proofs.WindowLaws.{low_below}

@@ -12,7 +12,7 @@ use crate::memory::Memory;
 use crate::reader::{Reader, Short};
 use crate::text::Text;
 use crate::value::Blob;
-use lt_model::KeyKind;
+use lt_terms::KeyKind;
 use std::alloc::Global;
 use std::error::Error;
 use std::fmt;

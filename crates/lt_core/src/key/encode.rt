@@ -4,7 +4,7 @@
 //! Encoding takes time linear in the bytes.
 
 ghost use Rattle.std.specs.Prelude.{◌≡◌, ◌≤◌, [], ◌∷◌, ◌++◌, length, IfOk, IfErr, OnOk};
-ghost use Rattle.lt_model.specs.Key.{escaped, key_bytes, max_key, number_key, part_bytes};
+ghost use Rattle.lt_terms.specs.Key.{escaped, key_bytes, max_key, number_key, part_bytes};
 ghost use Rattle.lt_core.specs.View.{view_part, view_parts};
 ghost use Rattle.lt_core.specs.Keys.{KeepsOrder, KeyRefused, encoded, escaped_byte};
 ghost use Rattle.lt_core.specs.declared.key.encode.KeyRefusal.TheVariants as refusals;

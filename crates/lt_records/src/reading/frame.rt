@@ -3,8 +3,8 @@
 //! The kind and the length decide first, so nothing is read behind a frame. Finding takes time linear in the frame.
 
 ghost use Rattle.std.specs.Prelude.{◌≡◌, ◌<◌, ◌≤◌, ◌&&◌, IfOk, nat_le, nat_lt};
-ghost use Rattle.lt_model.specs.declared.Format.TheVariants as format;
-ghost use Rattle.lt_model.specs.Log.{IsFound};
+ghost use Rattle.lt_terms.specs.declared.Format.TheVariants as format;
+ghost use Rattle.lt_terms.specs.Log.{IsFound};
 ghost use Rattle.lt_codecs.specs.Codec as codec;
 ghost use Rattle.lt_codecs.specs.LogCodec as log;
 ghost use Rattle.lt_records.specs.Reading.{Gives, GivesWhole, NothingElse};
@@ -15,7 +15,7 @@ use crate::reading::fault::Stop;
 use crate::reading::header::header_at;
 use crate::record::{Found, LogRecord};
 use lt_core::{Memory, Reader};
-use lt_model::BadFrame;
+use lt_terms::BadFrame;
 use std::alloc::Global;
 
 /// The most bytes that a body may have.

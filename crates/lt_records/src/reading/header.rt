@@ -1,9 +1,9 @@
 //! Headers. Reading one takes time linear in the bytes that are taken.
 
 ghost use Rattle.std.specs.Prelude.{◌≡◌, ◌&&◌, length, nat_le};
-ghost use Rattle.lt_model.specs.declared.Format.TheVariants as format;
-ghost use Rattle.lt_model.specs.Key.{max_key};
-ghost use Rattle.lt_model.specs.Log.{fits_high, magic};
+ghost use Rattle.lt_terms.specs.declared.Format.TheVariants as format;
+ghost use Rattle.lt_terms.specs.Key.{max_key};
+ghost use Rattle.lt_terms.specs.Log.{fits_high, magic};
 ghost use Rattle.lt_codecs.specs.Codec as codec;
 ghost use Rattle.lt_codecs.specs.LogCodec as log;
 ghost use Rattle.lt_records.specs.Reading.{Gives};

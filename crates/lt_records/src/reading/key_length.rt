@@ -1,7 +1,7 @@
 //! Whether a key's bytes are few enough, told without making them. It takes time linear in the key.
 
 ghost use Rattle.std.specs.Prelude.{◌≡◌, ◌≤◌, ◌+◌, ◌-◌, flat_map, length, nat_le, SomeIff};
-ghost use Rattle.lt_model.specs.Key.{escaped, max_key, part_bytes};
+ghost use Rattle.lt_terms.specs.Key.{escaped, max_key, part_bytes};
 ghost use Rattle.lt_core.specs.View.{view_part, view_parts};
 
 use lt_core::{KeyPart, KeyParts, MAX_KEY};

@@ -4,7 +4,7 @@
 //! Reading takes time linear in the bytes that are taken, and each text is copied once.
 
 ghost use Rattle.std.specs.Prelude.{◌≡◌, map};
-ghost use Rattle.lt_model.specs.Value.{is_number, rises_above};
+ghost use Rattle.lt_terms.specs.Value.{is_number, rises_above};
 ghost use Rattle.lt_core.specs.View.{view_setting, view_settings, view_value};
 ghost use Rattle.lt_codecs.specs.Codec.{◌then◌, read_times, u16, where_true};
 ghost use Rattle.lt_codecs.specs.LogCodec as log;
@@ -63,7 +63,8 @@ pub fn settings_at(alloc: Global, depth: u8, from: &mut Reader<'_>) -> Result<Se
 /// So many numbers and values.
 #[cycle(value)]
 fn counted_at(alloc: Global, depth: u8, count: u16, from: &mut Reader<'_>) -> Result<Settings, Stop>
-    ensures { Gives view_settings (read_times (where_true is_number u16 then log.value depth).read count from.old) result from.new }
+    ensures { Gives view_settings (read_times (where_true is_number u16 then log.value depth).read count from.old)
+        result from.new }
 {
     let mut settings = List::new(alloc);
     for _ in 0..count {

@@ -1,7 +1,7 @@
 //! Writing changes. It takes time linear in what is written.
 
 ghost use Rattle.std.specs.Prelude.{◌≡◌, ◌++◌, IsTrue, OnOk};
-ghost use Rattle.lt_model.specs.Log.{is_change, is_log_part};
+ghost use Rattle.lt_terms.specs.Log.{is_change, is_log_part};
 ghost use Rattle.lt_core.specs.View.{view_part, view_parts};
 ghost use Rattle.lt_codecs.specs.Codec as codec;
 ghost use Rattle.lt_codecs.specs.LogCodec as log;
@@ -16,7 +16,8 @@ use lt_core::{KeyPart, KeyParts, Memory, Op, Writer};
 #[tactic(auto, using(crate::proofs::Spellings::change_parts_spelled, crate::proofs::Spellings::change_settings_spelled), unfolding(lt_codecs::specs::LogCodec::change_parts, lt_codecs::specs::LogCodec::table_number, lt_codecs::specs::LogCodec::version_number))]
 pub fn put_change(to: &mut Writer, change: &ChangeRecord) -> Result<(), Memory>
     requires { IsTrue (is_change (view_change change.now)) }
-    ensures { OnOk result (to.new ≡ to.old ++ (codec.u64.spell change.now.ts ++ log.change_parts.spell (parts_of change.now))) }
+    ensures { OnOk result (to.new ≡ to.old ++
+        (codec.u64.spell change.now.ts ++ log.change_parts.spell (parts_of change.now))) }
 {
     to.u64(change.ts)?;
     to.u32(change.table)?;

@@ -1,8 +1,8 @@
 //! Writing frames: a kind, a length, and a body of that length. It takes time linear in the frame.
 
 ghost use Rattle.std.specs.Prelude.{◌≡◌, ◌≤◌, ◌++◌, length, IsTrue, IfOk, IfErr, OnOk};
-ghost use Rattle.lt_model.specs.declared.Format.TheVariants as format;
-ghost use Rattle.lt_model.specs.Log.{IsFrame, is_content, kind_byte};
+ghost use Rattle.lt_terms.specs.declared.Format.TheVariants as format;
+ghost use Rattle.lt_terms.specs.Log.{IsFrame, is_content, kind_byte};
 ghost use Rattle.lt_codecs.specs.Codec as codec;
 ghost use Rattle.lt_records.specs.View.{view_item};
 ghost use Rattle.lt_records.specs.Writing.{WriteRefused, body_of};

@@ -2,8 +2,8 @@
 
 ghost use Rattle.std.specs.Prelude.{◌≡◌, ◌<◌, ◌^◌, ◌++◌, length, IsTrue, OnOk};
 ghost use Rattle.std.specs.Option.{IfSome};
-ghost use Rattle.lt_model.specs.declared.Format.TheVariants as format;
-ghost use Rattle.lt_model.specs.Log.{is_header, magic};
+ghost use Rattle.lt_terms.specs.declared.Format.TheVariants as format;
+ghost use Rattle.lt_terms.specs.Log.{is_header, magic};
 ghost use Rattle.lt_codecs.specs.Codec as codec;
 ghost use Rattle.lt_records.specs.View.{view_header};
 
@@ -15,7 +15,10 @@ use lt_core::{KeyBytes, Memory, Writer};
 #[tactic(auto, using(crate::proofs::Spellings::short_low, crate::proofs::Spellings::short_high))]
 pub fn put_header(to: &mut Writer, header: &StreamHeader) -> Result<(), Memory>
     requires { IsTrue (is_header format.One (view_header header.now)) }
-    ensures { OnOk result (to.new ≡ to.old ++ (magic format.One ++ (codec.u32.spell header.now.stream ++ (codec.bytes16.spell header.now.range.low ++ (codec.optional codec.bytes16).spell header.now.range.high)))) }
+    ensures { OnOk result (to.new ≡ to.old ++
+        (magic format.One ++ (codec.u32.spell header.now.stream ++
+        (codec.bytes16.spell header.now.range.low ++ (codec.optional codec.bytes16).spell
+        header.now.range.high)))) }
 {
     to.bytes(MAGIC)?;
     to.u32(header.stream)?;

@@ -3,7 +3,7 @@
 //! Writing takes time linear in what is written. The recursion goes down the value, which nests at most 4 deep.
 
 ghost use Rattle.std.specs.Prelude.{◌≡◌, ◌++◌, OnOk};
-ghost use Rattle.lt_model.specs.Log.{bit as log_bit};
+ghost use Rattle.lt_terms.specs.Log.{bit as log_bit};
 ghost use Rattle.lt_core.specs.View.{view_settings, view_value};
 ghost use Rattle.lt_codecs.specs.LogCodec as log;
 ghost use Rattle.lt_records.specs.Writing.{AreSettings, HasSpelling};

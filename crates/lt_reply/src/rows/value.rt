@@ -3,8 +3,8 @@
 ghost use Rattle.std.specs.Prelude.{◌≡◌, option_map, IfOk};
 ghost use Rattle.serde_json.specs.Data.{array};
 ghost use Rattle.serde_json.specs.View.{view};
-ghost use Rattle.lt_model.specs.Reply.{name_of_number, shown, shown_fields};
-ghost use Rattle.lt_model.specs.Value.{null_value, value_at};
+ghost use Rattle.lt_words.specs.Reply.{name_of_number, shown, shown_fields};
+ghost use Rattle.lt_terms.specs.Value.{null_value, value_at};
 ghost use Rattle.lt_core.specs.View.{view_kind, view_value};
 ghost use Rattle.lt_schema.specs.View.{view_fields};
 ghost use Rattle.lt_schema_json.specs.Reading.{view_struct};

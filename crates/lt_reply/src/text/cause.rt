@@ -1,7 +1,7 @@
 //! Why a schema is refused, in words.
 
 ghost use Rattle.std.specs.Prelude.{◌≡◌, string_bytes, IfOk, IsTrue, is_some};
-ghost use Rattle.lt_model.specs.Reply.{cause_words as words_of, member_name, quoted_name, spaced};
+ghost use Rattle.lt_words.specs.Reply.{cause_words as words_of, member_name, quoted_name, spaced};
 ghost use Rattle.lt_schema_json.specs.Reading.{view_fault};
 ghost use Rattle.lt_schema.specs.Faults.{view_refusal as view_schema_refusal};
 ghost use Rattle.lt_reply.specs.View.{IsCause, json_cause, version_cause, view_cause};

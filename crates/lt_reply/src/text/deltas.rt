@@ -1,7 +1,7 @@
 //! The lines of a partition's deltas.
 
 ghost use Rattle.std.specs.Prelude.{◌≡◌, ◌++◌, flat_map, string_bytes, IfOk, OnOk};
-ghost use Rattle.lt_model.specs.Reply.{delta_line, deltas_told, ended};
+ghost use Rattle.lt_words.specs.Reply.{delta_line, deltas_told, ended};
 ghost use Rattle.lt_reply.specs.View.{Prints, view_delta, view_deltas};
 
 use crate::reply::{DeltaLine, DeltaLines};

@@ -1,7 +1,7 @@
 //! Refusals in words.
 
 ghost use Rattle.std.specs.Prelude.{◌≡◌, ◌++◌, ◌∷◌, string_bytes, IfOk};
-ghost use Rattle.lt_model.specs.Reply.{bad_schema, quoted_name as quoted};
+ghost use Rattle.lt_words.specs.Reply.{bad_schema, quoted_name as quoted};
 ghost use Rattle.lt_reply.specs.View.{IsCause, IsSpoken, PrintsRefusal, view_cause, view_refusal};
 
 use crate::refusal::{Cause, Refusal};

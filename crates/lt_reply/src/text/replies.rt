@@ -1,7 +1,7 @@
 //! Replies in words.
 
 ghost use Rattle.std.specs.Prelude.{◌≡◌, string_bytes, IfOk};
-ghost use Rattle.lt_model.specs.Reply.{compact_done, flush_done, id_text, job_finished, job_stepped, progress_text, pump_done};
+ghost use Rattle.lt_words.specs.Reply.{compact_done, flush_done, id_text, job_finished, job_stepped, progress_text, pump_done};
 ghost use Rattle.lt_pump.specs.View.{view_stop};
 ghost use Rattle.lt_reply.specs.View.{Prints, view_reply};
 
@@ -10,12 +10,12 @@ use crate::text::deltas::deltas_words;
 use crate::text::status::status_words;
 use crate::text::stop::stop_words;
 use lt_core::{Memory, Ts};
-use lt_model::Progress;
 use lt_pump::Stop;
+use lt_terms::Progress;
 use std::alloc::Global;
 
 /// A reply, without the end of its last line.
-#[tactic(auto, unfolding(lt_model::specs::Reply::reply_text))]
+#[tactic(auto, unfolding(lt_words::specs::Reply::reply_text))]
 pub fn reply_words(alloc: Global, reply: &Reply) -> Result<String, Memory>
     ensures { IfOk result (λ words. Prints (string_bytes words) (view_reply reply.now)) }
 {
@@ -60,7 +60,7 @@ pub fn reply_words(alloc: Global, reply: &Reply) -> Result<String, Memory>
     }
 }
 
-#[tactic(auto, unfolding(lt_model::specs::Reply::reply_text))]
+#[tactic(auto, unfolding(lt_words::specs::Reply::reply_text))]
 fn pump_words(
     alloc: Global,
     stream: u32,
@@ -78,7 +78,7 @@ fn pump_words(
     )?)
 }
 
-#[tactic(auto, unfolding(lt_model::specs::Reply::reply_text))]
+#[tactic(auto, unfolding(lt_words::specs::Reply::reply_text))]
 fn flush_words(alloc: Global, part: u32, resume: Ts, delta: Option<u64>) -> Result<String, Memory>
     ensures { IfOk result (λ words. Prints (string_bytes words) (flush_done part resume delta)) }
 {
@@ -86,7 +86,7 @@ fn flush_words(alloc: Global, part: u32, resume: Ts, delta: Option<u64>) -> Resu
     Ok(format!(in alloc; "ok flush {part} resume {resume} delta {delta}")?)
 }
 
-#[tactic(auto, unfolding(lt_model::specs::Reply::reply_text))]
+#[tactic(auto, unfolding(lt_words::specs::Reply::reply_text))]
 fn compact_words(
     alloc: Global,
     part: u32,
@@ -99,7 +99,7 @@ fn compact_words(
     Ok(format!(in alloc; "ok compact {part} inputs {inputs} delta {delta}")?)
 }
 
-#[tactic(auto, unfolding(lt_model::specs::Reply::reply_text))]
+#[tactic(auto, unfolding(lt_words::specs::Reply::reply_text))]
 fn step_words(alloc: Global, progress: Progress) -> Result<String, Memory>
     ensures { IfOk result (λ words. Prints (string_bytes words) (job_stepped progress)) }
 {
@@ -107,7 +107,7 @@ fn step_words(alloc: Global, progress: Progress) -> Result<String, Memory>
     Ok(format!(in alloc; "ok job step {word}")?)
 }
 
-#[tactic(auto, unfolding(lt_model::specs::Reply::reply_text))]
+#[tactic(auto, unfolding(lt_words::specs::Reply::reply_text))]
 fn finish_words(alloc: Global, delta: Option<u64>) -> Result<String, Memory>
     ensures { IfOk result (λ words. Prints (string_bytes words) (job_finished delta)) }
 {

@@ -1,14 +1,14 @@
 //! The lines of a status.
 
 ghost use Rattle.std.specs.Prelude.{◌≡◌, ◌++◌, ◌<◌, flat_map, string_bytes, IfOk, OnOk};
-ghost use Rattle.lt_model.specs.Reply.{bound_text, ended, job_text, part_line, part_lines, status_told, stream_line};
-ghost use Rattle.lt_model.specs.SchemaText.{hex_glyph, hex_text};
+ghost use Rattle.lt_words.specs.Reply.{bound_text, ended, job_text, part_line, part_lines, status_told, stream_line};
+ghost use Rattle.lt_words.specs.SchemaText.{hex_glyph, hex_text};
 ghost use Rattle.lt_reply.specs.View.{Prints, view_part, view_parts, view_stream, view_streams};
 
 use crate::reply::{PartLine, PartLines, StreamLine, StreamLines};
 use crate::text::replies::progress_word;
 use lt_core::{KeyBytes, Memory, Ts};
-use lt_model::Progress;
+use lt_terms::Progress;
 use std::alloc::Global;
 
 /// The minimum, a line for each partition and for each stream, and where the job stands.

@@ -1,14 +1,14 @@
 //! Why a pump stops, in words.
 
 ghost use Rattle.std.specs.Prelude.{◌≡◌, string_bytes, IfOk};
-ghost use Rattle.lt_model.specs.Reply.{bad_text, stop_text, unfair_text};
+ghost use Rattle.lt_words.specs.Reply.{bad_text, stop_text, unfair_text};
 ghost use Rattle.lt_fair.specs.View.{view_unfair};
 ghost use Rattle.lt_pump.specs.View.{view_stop};
 
 use lt_core::Memory;
 use lt_fair::Unfair;
-use lt_model::BadFrame;
 use lt_pump::Stop;
+use lt_terms::BadFrame;
 use std::alloc::Global;
 
 /// Why a pump stops.

@@ -3,27 +3,22 @@
 //! Looking takes time linear in the kinds and the defaults. The recursion is at most as deep as kinds and values may nest.
 
 ghost use Rattle.std.specs.Prelude.{◌≡◌, ◌≤◌, ◌&&◌, nat_le, not};
-ghost use Rattle.std.specs.Str.{is_utf8};
-ghost use Rattle.lt_model.specs.Kind.{has_rank, has_shape, have_shapes, nesting, nestings};
-ghost use Rattle.lt_model.specs.Value.{are_fields, fields_of, fits_32, fits_64, is_value};
-ghost use Rattle.lt_model.specs.Schema.{bad_default_of, is_too_deep};
+ghost use Rattle.lt_terms.specs.Kind.{nesting, nestings};
+ghost use Rattle.lt_terms.specs.Value.{are_fields, fields_of, is_value};
+ghost use Rattle.lt_tables.specs.Schema.{bad_default_of, is_too_deep};
 ghost use Rattle.lt_core.specs.View.{view_kind, view_settings, view_value};
 ghost use Rattle.lt_schema.specs.Defaults.{is_fallback, nest_low};
 ghost use Rattle.lt_schema.specs.View.{view_column, view_columns, view_fields, view_version};
 
+use crate::shape::{fits_64, has_shape, is_utf8};
 use crate::version::{Column, SchemaVersion};
-use lt_core::{FieldKinds, Fields, Kind, Rank, Text, Value};
+use lt_core::{FieldKinds, Fields, Kind, Value};
 
 /// How deep structs may nest.
 const MAX_DEPTH: u8 = 4;
 
 /// One more than the most bytes of a text or of bytes.
 const BYTES_END: usize = 1 << 32;
-
-/// The least number of 32 bits, and one more than the greatest.
-const LEAST_32: i64 = -(1 << 31);
-
-const END_32: i64 = 1 << 31;
 
 /// Whether a struct is nested deeper than structs may be.
 pub fn is_too_deep(version: &SchemaVersion) -> bool
@@ -84,75 +79,6 @@ fn has_fallback(column: &Column) -> bool
         None => true,
         Some(value) => has_shape(value, &column.kind) && is_value(value, MAX_DEPTH),
     }
-}
-
-/// Whether a value is null or of the kind.
-#[cycle(shapes)]
-fn has_shape(value: &Value, kind: &Kind) -> bool
-    ensures { result ≡ has_shape (view_value value.now) (view_kind kind.now) }
-{
-    match (value, kind) {
-        (Value::Null, _) => true,
-        (Value::Struct(fields), Kind::Struct(kinds)) => have_shapes(fields, kinds),
-        (Value::Int(number), Kind::Enum(_)) => fits_32(*number),
-        (value, Kind::Plain(rank)) => has_rank(value, *rank),
-        _ => false,
-    }
-}
-
-#[cycle(shapes)]
-#[tactic(auto, using(crate::proofs::Shapes::shapes_other, crate::proofs::Shapes::shapes_past, crate::proofs::Shapes::shapes_all))]
-fn have_shapes(fields: &Fields, kinds: &FieldKinds) -> bool
-    ensures { result ≡ have_shapes (fields_of (view_settings fields.now)) (view_fields kinds.now) }
-{
-    let mut at = 0;
-    for (number, value) in fields.as_slice() {
-        let Some((named, _, kind)) = kinds.get(at) else {
-            return false;
-        };
-        if number != named {
-            return false;
-        }
-        if !has_shape(value, kind) {
-            return false;
-        }
-        at += 1;
-    }
-    at == kinds.len()
-}
-
-fn has_rank(value: &Value, rank: Rank) -> bool
-    ensures { result ≡ has_rank rank (view_value value.now) }
-{
-    match (value, rank) {
-        (Value::Bool(_), Rank::Bool) => true,
-        (Value::Int(number), Rank::Int32) => fits_32(*number),
-        (Value::Int(number), Rank::Int64) => fits_64(*number),
-        (Value::Text(text), Rank::Text) => is_utf8(text),
-        (Value::Bytes(_), Rank::Bytes) => true,
-        _ => false,
-    }
-}
-
-fn fits_32(number: i64) -> bool
-    ensures { result ≡ fits_32 number }
-{
-    LEAST_32 <= number && number < END_32
-}
-
-/// Every number of the type fits.
-fn fits_64(_number: i64) -> bool
-    ensures { result ≡ fits_64 _number }
-{
-    true
-}
-
-/// Every text is UTF-8.
-fn is_utf8(text: &Text) -> bool
-    ensures { result ≡ is_utf8 text.now }
-{
-    let _bytes = text.as_slice();
-    true
 }
 
 /// Whether a log can spell a value that nests at most so deep.

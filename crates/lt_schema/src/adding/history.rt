@@ -5,8 +5,8 @@
 //! as it nests.
 
 ghost use Rattle.std.specs.Prelude.{◌≡◌, map};
-ghost use Rattle.lt_model.specs.Kind.{is_struct};
-ghost use Rattle.lt_model.specs.Schema.{changed_kind, clash, clash_within, default_again, reused_column};
+ghost use Rattle.lt_terms.specs.Kind.{is_struct};
+ghost use Rattle.lt_tables.specs.Schema.{changed_kind, clash, clash_within, default_again, reused_column};
 ghost use Rattle.lt_core.specs.View.{view_kind};
 ghost use Rattle.lt_schema.specs.History.{clashes, was_dropped};
 ghost use Rattle.lt_schema.specs.Tables.{view_registered};

@@ -5,7 +5,7 @@
 //! what it counts would fill more than 2^32 places.
 
 ghost use Rattle.std.specs.Prelude.{◌≡◌, ◌+◌, ◌++◌, [], ◌∷◌, map, option_map, IfOk, OnOk};
-ghost use Rattle.lt_model.specs.Schema.{joined_all, kinds_given, live_version, over};
+ghost use Rattle.lt_tables.specs.Schema.{joined_all, kinds_given, live_version, over};
 ghost use Rattle.lt_core.specs.View.{view_kind};
 ghost use Rattle.lt_schema.specs.Limits.{leaf_total, leaf_totals, leaves_in, long_in, long_of, long_within, numbers_in, over_counts, with_numbers};
 ghost use Rattle.lt_schema.specs.Tables.{view_registered};
@@ -40,7 +40,8 @@ pub fn passed_limit(
     versions: &[Registered],
     columns: &[Column],
 ) -> Result<Option<u32>, Memory>
-    ensures { IfOk result (λ count. count ≡ over_counts tables (map view_registered versions.now) (view_columns columns.now)) }
+    ensures { IfOk result (λ count. count ≡ over_counts tables (map view_registered versions.now)
+        (view_columns columns.now)) }
 {
     let count = over(MAX_TABLES, tables)?;
     if count.is_some() {
@@ -90,7 +91,8 @@ fn numbers_of(
     versions: &[Registered],
     columns: &[Column],
 ) -> Result<BTreeSet<u16>, Memory>
-    ensures { IfOk result (λ numbers. numbers.keys ≡ numbers_in (map view_registered versions.now ++ live_version (view_columns columns.now) ∷ [])) }
+    ensures { IfOk result (λ numbers. numbers.keys ≡ numbers_in
+        (map view_registered versions.now ++ live_version (view_columns columns.now) ∷ [])) }
 {
     let mut numbers = BTreeSet::new(alloc);
     for registered in versions {
@@ -115,7 +117,8 @@ fn leaf_count(
     columns: &[Column],
     numbers: &BTreeSet<u16>,
 ) -> Result<u32, Memory>
-    ensures { IfOk result (λ count. count ≡ leaves_in (map view_registered versions.now ++ live_version (view_columns columns.now) ∷ []) numbers.now.keys) }
+    ensures { IfOk result (λ count. count ≡ leaves_in
+        (map view_registered versions.now ++ live_version (view_columns columns.now) ∷ []) numbers.now.keys) }
 {
     let mut count = 0;
     for number in numbers.iter() {
@@ -133,7 +136,8 @@ fn carrier_with(
     columns: &[Column],
     number: u16,
 ) -> Result<Option<Kind>, Memory>
-    ensures { IfOk result (λ carrier. option_map view_kind carrier ≡ joined_all (kinds_given (map view_registered versions.now ++ live_version (view_columns columns.now) ∷ []) number)) }
+    ensures { IfOk result (λ carrier. option_map view_kind carrier ≡ joined_all
+        (kinds_given (map view_registered versions.now ++ live_version (view_columns columns.now) ∷ []) number)) }
 {
     let carrier = carrier_of(versions, number)?;
     match column_of(columns, number) {

@@ -5,7 +5,7 @@
 ghost use Rattle.std.specs.Prelude.{◌≡◌, ◌&&◌, length, map, nat_lt};
 ghost use Rattle.std.specs.List.{list_all};
 ghost use Rattle.std.specs.Option.{option_copied};
-ghost use Rattle.lt_model.specs.Schema.{any_bad_name, bad_name_in, bad_name_of, bad_name_within, field_names, is_letter, is_name, is_name_byte};
+ghost use Rattle.lt_tables.specs.Schema.{any_bad_name, bad_name_in, bad_name_of, bad_name_within, field_names, is_letter, is_name, is_name_byte};
 ghost use Rattle.lt_core.specs.View.{view_kind};
 ghost use Rattle.lt_schema.specs.Names.{bad_column_name, bad_key_name};
 ghost use Rattle.lt_schema.specs.View.{view_columns, view_fields, view_key, view_version};

@@ -1,8 +1,8 @@
 //! Numbers of tables, versions, columns, fields and enums.
 
 ghost use Rattle.std.specs.Prelude.{◌≡◌, ℕ, pos, map};
-ghost use Rattle.lt_model.specs.Kind.{enumeration};
-ghost use Rattle.lt_model.specs.Schema.{any_number_fault, column_number_fault, field_numbers, not_rising, number_fault_in, number_fault_within, numbers_fault};
+ghost use Rattle.lt_terms.specs.Kind.{enumeration};
+ghost use Rattle.lt_tables.specs.Schema.{any_number_fault, column_number_fault, field_numbers, not_rising, number_fault_in, number_fault_within, numbers_fault};
 ghost use Rattle.lt_core.specs.View.{view_kind};
 ghost use Rattle.lt_schema.specs.Numbers.{not_above};
 ghost use Rattle.lt_schema.specs.View.{view_columns, view_fields, view_version};

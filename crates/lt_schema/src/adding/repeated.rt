@@ -4,7 +4,7 @@
 
 ghost use Rattle.std.specs.Prelude.{◌≡◌, [], map, IfNone, IfOk};
 ghost use Rattle.std.specs.Option.{option_copied};
-ghost use Rattle.lt_model.specs.Schema.{any_repeated, field_names, repeated, repeated_column, repeated_in, repeated_within};
+ghost use Rattle.lt_tables.specs.Schema.{any_repeated, field_names, repeated, repeated_column, repeated_in, repeated_within};
 ghost use Rattle.lt_core.specs.View.{view_kind};
 ghost use Rattle.lt_schema.specs.Names.{key_names};
 ghost use Rattle.lt_schema.specs.Seen.{Holds};
@@ -51,7 +51,8 @@ fn repeated_in_columns<'a>(
     version: &'a SchemaVersion,
 ) -> Result<Option<&'a Text>, Memory>
     requires { Holds seen.old (map (λ c. c.name) version.now.key) }
-    ensures { IfOk result (λ name. option_copied name ≡ repeated_column (map (λ c. c.name) version.now.key) (view_columns version.now.columns)) }
+    ensures { IfOk result (λ name. option_copied name ≡ repeated_column (map (λ c. c.name) version.now.key)
+        (view_columns version.now.columns)) }
 {
     for column in version.columns.as_slice() {
         if !see(seen, &column.name)? {

@@ -3,9 +3,9 @@
 ghost use Rattle.std.specs.Prelude.{codes, option_map};
 ghost use Rattle.serde_json.specs.Find.{get_member};
 ghost use Rattle.serde_json.specs.View.{members_view, view};
-ghost use Rattle.lt_model.specs.declared.Field.TheVariants as field;
+ghost use Rattle.lt_terms.specs.declared.Field.TheVariants as field;
 ghost use Rattle.lt_core.specs.View.{view_kind, view_value};
-ghost use Rattle.lt_model.specs.SchemaText.{column_in, columns_in, default_of, kind_in, required};
+ghost use Rattle.lt_words.specs.SchemaText.{column_in, columns_in, default_of, kind_in, required};
 ghost use Rattle.lt_schema.specs.View.{view_column, view_columns};
 ghost use Rattle.lt_schema_json.specs.Reading.{Gives, values_view};
 
@@ -14,8 +14,8 @@ use crate::reading::kind::kind_in;
 use crate::reading::member::{Members, get, member, members_of, no_other, small_at, text_at};
 use crate::refusal::JsonRefusal;
 use lt_core::{Kind, List, Value};
-use lt_model::Field;
 use lt_schema::{Column, Columns};
+use lt_terms::Field;
 use serde_json::Value as Json;
 use std::alloc::Global;
 
@@ -49,7 +49,8 @@ fn column_in(alloc: Global, value: &Json) -> Result<Column, JsonRefusal>
 
 /// The member `kind`.
 fn kind_at(alloc: Global, members: &Members) -> Result<Kind, JsonRefusal>
-    ensures { Gives view_kind (required field.Kind kind_in (get_member (codes "kind") (members_view members.now.entries))) result }
+    ensures { Gives view_kind (required field.Kind kind_in
+        (get_member (codes "kind") (members_view members.now.entries))) result }
 {
     let value = member(members, "kind", Field::Kind)?;
     kind_in(alloc, value).map_err(|stop| stop.at(Field::Kind))
@@ -57,7 +58,9 @@ fn kind_at(alloc: Global, members: &Members) -> Result<Kind, JsonRefusal>
 
 /// The member `default`, which may be missing.
 fn fallback_at(alloc: Global, members: &Members, kind: &Kind) -> Result<Option<Value>, JsonRefusal>
-    ensures { Gives (option_map view_value) (default_of (view_kind kind.now) (get_member (codes "default") (members_view members.now.entries))) result }
+    ensures { Gives (option_map view_value)
+        (default_of (view_kind kind.now) (get_member (codes "default") (members_view members.now.entries)))
+        result }
 {
     match get(members, "default") {
         None => Ok(None),

@@ -3,8 +3,8 @@
 ghost use Rattle.std.specs.Prelude.{◌≡◌, ◌<◌, IfSome};
 ghost use Rattle.serde_json.specs.View.{view};
 ghost use Rattle.lt_core.specs.View.{view_kind, view_value};
-ghost use Rattle.lt_model.specs.Query.{hex_bytes, hex_digit};
-ghost use Rattle.lt_model.specs.SchemaText.{default_at, default_in};
+ghost use Rattle.lt_tables.specs.Query.{hex_bytes, hex_digit};
+ghost use Rattle.lt_words.specs.SchemaText.{default_at, default_in};
 ghost use Rattle.lt_schema_json.specs.Reading.{Reads, hex_byte, struct_in, view_struct};
 
 use crate::reading::form::{array_in, text_in, whole_in};

@@ -2,7 +2,7 @@
 
 ghost use Rattle.std.specs.Prelude.{◌≡◌, ◌-◌, ◌^◌, IfOk};
 ghost use Rattle.serde_json.specs.View.{view};
-ghost use Rattle.lt_model.specs.SchemaText.{as_list, as_number_up_to, as_text, as_whole};
+ghost use Rattle.lt_words.specs.SchemaText.{as_list, as_number_up_to, as_text, as_whole};
 ghost use Rattle.lt_schema_json.specs.Reading.{Reads, values_view};
 
 use crate::reading::stop::Stop;

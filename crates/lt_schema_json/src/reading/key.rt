@@ -1,10 +1,10 @@
 //! Key columns: pairs of a name and a kind.
 
 ghost use Rattle.std.specs.Prelude.{◌≡◌, codes, option_and_then};
-ghost use Rattle.lt_model.specs.declared.Field.TheVariants as field;
+ghost use Rattle.lt_terms.specs.declared.Field.TheVariants as field;
 ghost use Rattle.serde_json.specs.Find.{get_member};
 ghost use Rattle.serde_json.specs.View.{members_view, view};
-ghost use Rattle.lt_model.specs.SchemaText.{all_of, as_list, key_column, key_kind_named, required};
+ghost use Rattle.lt_words.specs.SchemaText.{all_of, as_list, key_column, key_kind_named, required};
 ghost use Rattle.lt_schema.specs.View.{view_key, view_key_column};
 ghost use Rattle.lt_schema_json.specs.Reading.{Gives, Reads};
 
@@ -13,14 +13,15 @@ use crate::reading::member::{Members, member};
 use crate::reading::stop::Stop;
 use crate::refusal::JsonRefusal;
 use lt_core::{KeyKind, List};
-use lt_model::Field;
 use lt_schema::{KeyColumn, KeyColumns};
+use lt_terms::Field;
 use serde_json::Value as Json;
 use std::alloc::Global;
 
 /// The member `key`.
 pub fn key_at(alloc: Global, members: &Members) -> Result<KeyColumns, JsonRefusal>
-    ensures { Gives view_key (required field.Key (λ d. option_and_then (all_of key_column) (as_list d)) (get_member (codes "key") (members_view members.now.entries))) result }
+    ensures { Gives view_key (required field.Key (λ d. option_and_then (all_of key_column) (as_list d))
+        (get_member (codes "key") (members_view members.now.entries))) result }
 {
     let value = member(members, "key", Field::Key)?;
     key_in(alloc, value).map_err(|stop| stop.at(Field::Key))

@@ -4,7 +4,7 @@ ghost use Rattle.std.specs.Prelude.{◌≡◌, map, option_and_then};
 ghost use Rattle.serde_json.specs.Data.{object};
 ghost use Rattle.serde_json.specs.View.{members_view, view};
 ghost use Rattle.lt_core.specs.View.{view_kind};
-ghost use Rattle.lt_model.specs.SchemaText.{all_of, as_list, enum_name, kind_in, rank_named, triples_in};
+ghost use Rattle.lt_words.specs.SchemaText.{all_of, as_list, enum_name, kind_in, rank_named, triples_in};
 ghost use Rattle.lt_schema.specs.View.{view_field, view_fields};
 ghost use Rattle.lt_schema_json.specs.Reading.{Reads, one_field};
 

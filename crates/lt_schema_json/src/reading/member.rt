@@ -3,15 +3,15 @@
 ghost use Rattle.std.specs.Prelude.{◌≡◌, ◌-◌, ◌^◌, map, option_map};
 ghost use Rattle.serde_json.specs.Find.{get_member};
 ghost use Rattle.serde_json.specs.View.{members_view, view};
-ghost use Rattle.lt_model.specs.Schema.{is_among};
-ghost use Rattle.lt_model.specs.SchemaText.{as_list, as_members, as_number_up_to, as_text, no_other, required};
+ghost use Rattle.lt_tables.specs.Schema.{is_among};
+ghost use Rattle.lt_words.specs.SchemaText.{as_list, as_members, as_number_up_to, as_text, no_other, required};
 ghost use Rattle.lt_schema_json.specs.Reading.{Gives, found, or_wrong, values_view};
 
 use crate::reading::form::{array_in, copied, large_in, small_in, text_in};
 use crate::reading::stop::Stop;
 use crate::refusal::JsonRefusal;
 use lt_core::Text;
-use lt_model::Field;
+use lt_terms::Field;
 use serde_json::{Map, Value as Json};
 use std::alloc::Global;
 
@@ -71,7 +71,8 @@ pub fn text_at(
     name: &str,
     field: Field,
 ) -> Result<Text, JsonRefusal>
-    ensures { Gives (λ text. text) (required field as_text (get_member name.now (members_view members.now.entries))) result }
+    ensures { Gives (λ text. text) (required field as_text (get_member name.now (members_view members.now.entries)))
+        result }
 {
     let value = member(members, name, field)?;
     text_in(alloc, value).map_err(|stop| stop.at(field))
@@ -79,7 +80,8 @@ pub fn text_at(
 
 /// A member that is the number of a column.
 pub fn small_at(members: &Members, name: &str, field: Field) -> Result<u16, JsonRefusal>
-    ensures { Gives (λ n. n) (required field (as_number_up_to 65535) (get_member name.now (members_view members.now.entries))) result }
+    ensures { Gives (λ n. n) (required field (as_number_up_to 65535)
+        (get_member name.now (members_view members.now.entries))) result }
 {
     let value = member(members, name, field)?;
     small_in(value).map_err(|stop| stop.at(field))
@@ -87,7 +89,8 @@ pub fn small_at(members: &Members, name: &str, field: Field) -> Result<u16, Json
 
 /// A member that is the number of a table or version.
 pub fn large_at(members: &Members, name: &str, field: Field) -> Result<u32, JsonRefusal>
-    ensures { Gives (λ n. n) (required field (as_number_up_to (2 ^ 32 - 1)) (get_member name.now (members_view members.now.entries))) result }
+    ensures { Gives (λ n. n) (required field (as_number_up_to (2 ^ 32 - 1))
+        (get_member name.now (members_view members.now.entries))) result }
 {
     let value = member(members, name, field)?;
     large_in(value).map_err(|stop| stop.at(field))
@@ -99,7 +102,8 @@ pub fn array_at<'m>(
     name: &str,
     field: Field,
 ) -> Result<&'m [Json], JsonRefusal>
-    ensures { Gives (λ vs. values_view vs.now) (required field as_list (get_member name.now (members_view members.now.entries))) result }
+    ensures { Gives (λ vs. values_view vs.now)
+        (required field as_list (get_member name.now (members_view members.now.entries))) result }
 {
     let value = member(members, name, field)?;
     array_in(value).map_err(|stop| stop.at(field))

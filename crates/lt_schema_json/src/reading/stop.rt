@@ -6,7 +6,7 @@ ghost use Rattle.lt_schema_json.specs.Reading.{refusal_at};
 
 use crate::refusal::JsonRefusal;
 use lt_core::Memory;
-use lt_model::Field;
+use lt_terms::Field;
 
 /// Why a part of a text was not read.
 #[derive(Clone, Copy, Debug, PartialEq, Eq)]

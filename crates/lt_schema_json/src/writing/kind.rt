@@ -4,7 +4,7 @@ ghost use Rattle.std.specs.Prelude.{◌≡◌, map, pos, IfOk};
 ghost use Rattle.serde_json.specs.Data.{array, member, no_members, object, string};
 ghost use Rattle.serde_json.specs.View.{view};
 ghost use Rattle.lt_core.specs.View.{view_kind};
-ghost use Rattle.lt_model.specs.SchemaText.{field_items, kind_data, number_data, rank_name, three};
+ghost use Rattle.lt_words.specs.SchemaText.{field_items, kind_data, number_data, rank_name, three};
 ghost use Rattle.lt_schema.specs.View.{view_fields};
 ghost use Rattle.lt_schema_json.specs.Writing.{list_data, name_data};
 

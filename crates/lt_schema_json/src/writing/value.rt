@@ -4,7 +4,7 @@ ghost use Rattle.std.specs.Prelude.{◌≡◌, ◌<◌, IfOk, string_bytes};
 ghost use Rattle.serde_json.specs.Data.{array};
 ghost use Rattle.serde_json.specs.View.{view};
 ghost use Rattle.lt_core.specs.View.{view_value};
-ghost use Rattle.lt_model.specs.SchemaText.{hex_glyph, hex_string, plain_data, plain_items};
+ghost use Rattle.lt_words.specs.SchemaText.{hex_glyph, hex_string, plain_data, plain_items};
 ghost use Rattle.lt_schema_json.specs.Reading.{view_struct};
 
 use lt_core::{Blob, Fields, Memory, Value};

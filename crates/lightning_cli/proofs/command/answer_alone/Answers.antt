@@ -2,8 +2,9 @@ use Rattle.std.proofs.Common.{[]}
 use Rattle.std.specs.Prelude.{None}
 use Rattle.lt_command.specs.View.{view_command}
 use Rattle.lt_engine.specs.Steps.{answer_of}
-use Rattle.lt_model.specs.InMemory.{is_built}
-use Rattle.lt_model.specs.Outside.{RowSinkState, is_command}
+use Rattle.lt_words.specs.Lines.{is_built}
+use Rattle.lt_world.specs.RowSink.{RowSinkState}
+use Rattle.lt_machine.specs.Outside.{is_command}
 use Rattle.lightning_cli.proofs.CommandLaws.{leads, spells_none}
 use Rattle.lightning_cli.proofs.EndLaws.{never_rose, second_holds}
 use Rattle.lightning_cli.proofs.command.answer_alone.Goals as goal

@@ -2,9 +2,9 @@ use Rattle.std.proofs.Common.{Some, ap, subst, sym, ◌++◌, ◌∙◌, ◌≡�
 use Rattle.std.specs.Prelude.{IfOk}
 use Rattle.lt_command.specs.View.{view_command}
 use Rattle.lt_engine.specs.Steps.{answer_of}
-use Rattle.lt_model.specs.InMemory.{is_built}
-use Rattle.lt_model.specs.Outside.{is_command}
-use Rattle.lt_model.specs.Run.{result_text}
+use Rattle.lt_words.specs.Lines.{is_built}
+use Rattle.lt_machine.specs.Outside.{is_command}
+use Rattle.lt_machine.specs.Run.{result_text}
 use Rattle.lt_schema.specs.View.{view_version}
 use Rattle.lightning_cli.proofs.CommandLaws.{leads, spells_rows, texts_state}
 use Rattle.lightning_cli.proofs.EndLaws.{never_rose, second_holds}

@@ -1,6 +1,6 @@
 use Rattle.std.proofs.Common.{length, take, ◌-◌, ◌≤◌}
 use Rattle.std.specs.Io.KnownBytes.{Appends}
-use Rattle.lt_model.specs.Outside.{BytesGo}
+use Rattle.lt_world.specs.Object.{BytesGo}
 use Rattle.lightning_cli.specs.Serving.{Unfailed}
 use Rattle.lightning_cli.proofs.output.put.Given as goal
 

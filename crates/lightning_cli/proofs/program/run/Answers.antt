@@ -1,8 +1,8 @@
 use Rattle.std.proofs.Common.{◌∙◌, ◌≤◌, arith, ap, inl, map, refl, string_bytes, subst, sym}
 use Rattle.std.specs.Prelude.{if◌then◌else◌}
 use Rattle.lt_engine.specs.State.{view_start}
-use Rattle.lt_model.specs.Disk.{DiskGoes, LeftOnly}
-use Rattle.lt_model.specs.Run.{no_words_known, word_run}
+use Rattle.lt_world.specs.Disk.{DiskGoes, LeftOnly}
+use Rattle.lt_machine.specs.Run.{no_words_known, word_run}
 use Rattle.lt_pump.proofs.FeedLaws.{goes_itself, goes_then}
 use Rattle.lightning_cli.proofs.FeedLaws.{told_on}
 use Rattle.lightning_cli.proofs.OutLaws.{bytes_stay}

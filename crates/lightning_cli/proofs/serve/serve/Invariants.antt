@@ -1,7 +1,8 @@
 use Rattle.std.proofs.Common.{◌≡◌, ◌≤◌, []}
-use Rattle.lt_model.specs.Outside.{BytesGo, FeedGoes}
-use Rattle.lt_model.specs.Program.{Tells, Told, outside_of}
-use Rattle.lt_model.specs.Run.{Moment, max_script}
+use Rattle.lt_world.specs.Object.{BytesGo}
+use Rattle.lt_world.specs.Feed.{FeedGoes}
+use Rattle.lt_machine.specs.Program.{Tells, Told, outside_of}
+use Rattle.lt_machine.specs.Run.{Moment, max_script}
 use Rattle.lt_engine.specs.State.{IsFed}
 use Rattle.lightning_cli.specs.Commands.{StandsIn}
 use Rattle.lightning_cli.specs.Serving.{IsServing, IsTaken, Unfailed}

@@ -1,7 +1,7 @@
 use Rattle.std.proofs.Common.{[], add-one, ap, sym, take, take-suc, ◌+◌, ◌++◌, ◌∙◌, ◌∷◌, ◌≡◌}
-use Rattle.lt_model.specs.Value.{value_at}
-use Rattle.lt_model.specs.Conversion.{conv, conv_fields}
-use Rattle.lt_laws.proofs.WidenLaws.{conv_null}
+use Rattle.lt_terms.specs.Value.{value_at}
+use Rattle.lt_terms.specs.Conversion.{conv, conv_fields}
+use Rattle.lt_lemmas.proofs.WidenLaws.{conv_null}
 use Rattle.lt_core.specs.View.{view_kind, view_value}
 use Rattle.lt_core.proofs.ViewLaws.{view_null}
 use Rattle.lt_coerce.specs.Fields.{value_found, view_field_kinds, view_fields}

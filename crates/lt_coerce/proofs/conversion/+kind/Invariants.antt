@@ -1,5 +1,5 @@
 use Rattle.std.proofs.Common.{◌≡◌, take}
-use Rattle.lt_model.specs.Conversion.{conv_fields}
+use Rattle.lt_terms.specs.Conversion.{conv_fields}
 use Rattle.lt_coerce.specs.Fields.{view_field_kinds, view_fields}
 use Rattle.lt_coerce.proofs.conversion.+kind.Given as goal
 

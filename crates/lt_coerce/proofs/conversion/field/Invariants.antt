@@ -1,5 +1,5 @@
 use Rattle.std.proofs.Common.{◌≡◌, drop}
-use Rattle.lt_model.specs.Value.{value_at}
+use Rattle.lt_terms.specs.Value.{value_at}
 use Rattle.lt_coerce.specs.Fields.{view_fields}
 use Rattle.lt_coerce.proofs.conversion.field.Given as goal
 

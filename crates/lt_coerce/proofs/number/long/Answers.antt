@@ -1,7 +1,7 @@
 use Rattle.std.proofs.Common.{ap, rules, of_z, sym, to_z, w64, ◌∙◌, ◌≡◌}
-use Rattle.lt_model.specs.Conversion.{at_rank, number_of_text, number_or_null}
-use Rattle.lt_model.specs.Value.{fields_of, int_value}
-use Rattle.lt_model.specs.declared.Rank.TheVariants as ranks
+use Rattle.lt_terms.specs.Conversion.{at_rank, number_of_text, number_or_null}
+use Rattle.lt_terms.specs.Value.{fields_of, int_value}
+use Rattle.lt_terms.specs.declared.Rank.TheVariants as ranks
 use Rattle.lt_core.specs.View.{view_settings, view_value}
 use Rattle.lt_core.proofs.ViewLaws.{view_bool, view_bytes, view_int, view_null, view_struct, view_text}
 use Rattle.lt_coerce.proofs.RankLaws.{bool_number, bytes_number, gives, int_number, null_number, struct_null, text_number}

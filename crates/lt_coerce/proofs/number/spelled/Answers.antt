@@ -3,10 +3,10 @@ use Rattle.std.specs.Prelude.{Ok}
 use Rattle.std.specs.Fmt.{signed_decimal}
 use Rattle.std.specs.Str.{IsUtf8}
 use Rattle.std.proofs.lemmas.Fmt.{parse-signed_decimal}
-use Rattle.lt_model.specs.Conversion.{same_bytes}
-use Rattle.lt_model.specs.Value.{int_value}
+use Rattle.lt_terms.specs.Conversion.{same_bytes}
+use Rattle.lt_terms.specs.Value.{int_value}
 use Rattle.lt_codecs.proofs.Codecs.{tested}
-use Rattle.lt_laws.proofs.ConversionLemmas.{mag_fits, same_bytes-same, same_bytes-self}
+use Rattle.lt_lemmas.proofs.ConversionLemmas.{mag_fits, same_bytes-same, same_bytes-self}
 use Rattle.lt_core.proofs.ViewLaws.{view_int, view_null}
 use Rattle.lt_coerce.proofs.RankLaws.{none_spelled, number_spelled, utf8_decimal}
 use Rattle.lt_coerce.proofs.number.spelled.Goals as goal

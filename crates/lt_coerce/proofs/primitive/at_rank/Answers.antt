@@ -1,5 +1,5 @@
 use Rattle.std.proofs.Common.{ap, sym, ◌∙◌}
-use Rattle.lt_model.specs.Conversion.{at_rank, lowered_to_bool, lowered_to_int32}
+use Rattle.lt_terms.specs.Conversion.{at_rank, lowered_to_bool, lowered_to_int32}
 use Rattle.lt_core.specs.View.{view_value}
 use Rattle.lt_coerce.proofs.RankLaws.{bool_by, short_by}
 use Rattle.lt_coerce.proofs.primitive.at_rank.Goals as goal

@@ -1,11 +1,11 @@
 use Rattle.std.proofs.Common.{FitsSigned, ap, of_z, rules, sym, to_z, w64, ◌∙◌, ◌≡◌}
 use Rattle.std.specs.Fmt.{signed_decimal}
-use Rattle.lt_model.specs.Conversion.{at_rank, lowered_to_text}
-use Rattle.lt_model.specs.Value.{bytes_value, fields_of, text_value}
-use Rattle.lt_model.specs.declared.Rank.TheVariants as ranks
+use Rattle.lt_terms.specs.Conversion.{at_rank, lowered_to_text}
+use Rattle.lt_terms.specs.Value.{bytes_value, fields_of, text_value}
+use Rattle.lt_terms.specs.declared.Rank.TheVariants as ranks
 use Rattle.lt_core.specs.View.{view_settings, view_value}
 use Rattle.lt_core.proofs.ViewLaws.{view_bool, view_bytes, view_int, view_null, view_struct, view_text}
-use Rattle.lt_laws.proofs.ConversionLemmas.{at_rank-null}
+use Rattle.lt_lemmas.proofs.ConversionLemmas.{at_rank-null}
 use Rattle.lt_coerce.proofs.RankLaws.{bool_text, bytes_text, gives, int_text, struct_null, text_text}
 use Rattle.lt_coerce.proofs.primitive.text.Goals as goal
 

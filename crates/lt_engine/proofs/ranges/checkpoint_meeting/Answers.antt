@@ -2,8 +2,8 @@ use Rattle.std.proofs.Common.{None, Some, ap, arith, subst, sym, ◌∙◌, ◌�
 use Rattle.std.specs.Prelude.{IfSome, length}
 use Rattle.std.specs.Option.{option_copied}
 use Rattle.std.proofs.lemmas.List.{length-map}
-use Rattle.lt_model.specs.Key.{ranges_from}
-use Rattle.lt_model.specs.Schema.{when}
+use Rattle.lt_terms.specs.Key.{ranges_from}
+use Rattle.lt_tables.specs.Schema.{when}
 use Rattle.lt_parts.specs.Parts.{interval}
 use Rattle.lt_pump.specs.Positions.{low_of}
 use Rattle.lt_pump.specs.Pumps.{streams_of}

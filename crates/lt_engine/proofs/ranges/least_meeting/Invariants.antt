@@ -1,5 +1,5 @@
 use Rattle.std.proofs.Common.{take, ◌≡◌}
-use Rattle.lt_model.specs.Machine.{checkpoints_meeting}
+use Rattle.lt_machine.specs.Machine.{checkpoints_meeting}
 use Rattle.lt_parts.specs.Parts.{interval}
 use Rattle.lt_pump.specs.Pumps.{streams_of}
 use Rattle.lt_engine.proofs.RangeLaws.{first_least}

@@ -1,7 +1,7 @@
 use Rattle.std.proofs.Common.{Some, ap, refl, rules, sym, ◌∙◌, ◌≡◌}
 use Rattle.std.specs.Prelude.{max, option_map}
 use Rattle.std.specs.Option.{option_copied}
-use Rattle.lt_model.specs.Machine.{checkpoints_meeting, least}
+use Rattle.lt_machine.specs.Machine.{checkpoints_meeting, least}
 use Rattle.lt_pump.specs.Pumps.{streams_of}
 use Rattle.lt_parts.proofs.Ranges.{range_with}
 use Rattle.lt_engine.proofs.RangeLaws.{times_are}

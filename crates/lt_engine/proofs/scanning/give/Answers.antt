@@ -2,7 +2,7 @@ use Rattle.std.proofs.Common.{ap, map, subst, sym, take, ◌∙◌}
 use Rattle.std.specs.Prelude.{Err}
 use Rattle.std.proofs.lemmas.List.{take-map}
 use Rattle.lt_core.specs.View.{view_row}
-use Rattle.lt_model.specs.Outside.{Given}
+use Rattle.lt_world.specs.RowSink.{Given}
 use Rattle.lt_engine.proofs.GivenLaws.{one_more, row_refused}
 use Rattle.lt_engine.proofs.Results.{err_is}
 use Rattle.lt_engine.proofs.scanning.give.Goals as goal

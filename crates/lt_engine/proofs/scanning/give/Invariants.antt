@@ -1,6 +1,6 @@
 use Rattle.std.proofs.Common.{map, take, ◌≡◌}
 use Rattle.lt_core.specs.View.{view_row}
-use Rattle.lt_model.specs.Outside.{Given, RowSinkGoes}
+use Rattle.lt_world.specs.RowSink.{Given, RowSinkGoes}
 use Rattle.lt_engine.proofs.scanning.give.Given as goal
 
 abbrev pub invariant-loop-row : goal.invariant-loop-row

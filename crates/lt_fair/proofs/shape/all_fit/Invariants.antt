@@ -1,5 +1,5 @@
 use Rattle.std.specs.Prelude.{drop, ◌≡◌}
-use Rattle.lt_model.specs.Schema.{shapes_of}
+use Rattle.lt_tables.specs.Schema.{shapes_of}
 use Rattle.lt_core.specs.View.{view_settings}
 use Rattle.lt_schema.specs.View.{view_columns}
 use Rattle.lt_fair.proofs.shape.all_fit.Given as goal

@@ -1,5 +1,5 @@
 use Rattle.std.specs.Prelude.{drop, map, ◌≡◌}
-use Rattle.lt_model.specs.Schema.{same_numbers}
+use Rattle.lt_tables.specs.Schema.{same_numbers}
 use Rattle.lt_core.specs.View.{view_settings}
 use Rattle.lt_schema.specs.View.{view_columns}
 use Rattle.lt_fair.proofs.shape.are_numbers_of.Given as goal

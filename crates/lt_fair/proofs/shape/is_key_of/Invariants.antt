@@ -1,6 +1,6 @@
 use Rattle.std.specs.Prelude.{drop, ◌≡◌}
-use Rattle.lt_model.specs.Key.{is_key_of}
-use Rattle.lt_model.specs.Schema.{key_kinds}
+use Rattle.lt_terms.specs.Key.{is_key_of}
+use Rattle.lt_tables.specs.Schema.{key_kinds}
 use Rattle.lt_core.specs.View.{view_parts}
 use Rattle.lt_schema.specs.View.{view_key}
 use Rattle.lt_fair.proofs.shape.is_key_of.Given as goal

@@ -2,7 +2,7 @@ use Rattle.std.proofs.Common.{false, sym, ◌∙◌, ◌≡◌}
 use Rattle.std.specs.Ordering.{is_lt}
 use Rattle.std.specs.Map.{keys_of}
 use Rattle.std.proofs.lemmas.List.Elements.{recursion_from_All}
-use Rattle.lt_model.specs.Key.{bytes_cmp}
+use Rattle.lt_terms.specs.Key.{bytes_cmp}
 use Rattle.lt_fair.proofs.WindowLaws.{below_last}
 use Rattle.lt_fair.proofs.window.comes_last.Goals as goal
 

@@ -1,5 +1,5 @@
 use Rattle.std.specs.Prelude.{drop, ◌≡◌}
-use Rattle.lt_model.specs.Fair.{window_ts}
+use Rattle.lt_tables.specs.Fair.{window_ts}
 use Rattle.lt_fair.proofs.window.last_in.Given as goal
 
 abbrev pub invariant-loop-other : goal.invariant-loop-other

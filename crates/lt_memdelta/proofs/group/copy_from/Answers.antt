@@ -1,5 +1,5 @@
 use Rattle.std.proofs.Common.{List, ap, arith, length, rules, ◌∙◌, ◌+◌, ◌≡◌}
-use Rattle.lt_model.specs.Version.{RowVersion}
+use Rattle.lt_tables.specs.Version.{RowVersion}
 use Rattle.lt_memdelta.specs.Deltas.{with_rows}
 use Rattle.lt_memdelta.specs.Groups.{rows_from}
 use Rattle.lt_memdelta.specs.declared.group.Group.{Group}

@@ -1,6 +1,6 @@
 use Rattle.std.proofs.Common.{List, [], ap, sym, ◌++◌, ◌∙◌, ◌∷◌}
 use Rattle.std.specs.List.{position}
-use Rattle.lt_model.specs.Version.{RowVersion, put_version}
+use Rattle.lt_tables.specs.Version.{RowVersion, put_version}
 use Rattle.lt_version.specs.View.{view_version}
 use Rattle.lt_memdelta.specs.Deltas.{is_group}
 use Rattle.lt_memdelta.specs.declared.group.Group.{Group}

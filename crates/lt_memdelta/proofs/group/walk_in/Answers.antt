@@ -1,7 +1,7 @@
 use Rattle.std.proofs.Common.{List, ap, refl, slice_index_or, subst, sym, ◌∙◌, ◌≡◌}
 use Rattle.std.specs.Prelude.{IsTrue}
 use Rattle.lt_core.specs.View.{view_range}
-use Rattle.lt_model.specs.Version.{RowVersion, clip, is_ordered}
+use Rattle.lt_tables.specs.Version.{RowVersion, clip, is_ordered}
 use Rattle.lt_memdelta.specs.Deltas.{group_rows}
 use Rattle.lt_memdelta.specs.declared.group.Group.{Group}
 use Rattle.lt_memdelta.proofs.Grouped.{rows-at, rows-nowhere, stands-at, stands-nowhere}

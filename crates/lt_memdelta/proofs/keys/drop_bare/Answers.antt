@@ -1,6 +1,6 @@
 use Rattle.std.proofs.Common.{ap, ◌∙◌}
 use Rattle.std.specs.BTreeMap.{is_at}
-use Rattle.lt_model.specs.Key.{bytes_cmp}
+use Rattle.lt_terms.specs.Key.{bytes_cmp}
 use Rattle.lt_memdelta.specs.Stamps.{rows_of}
 use Rattle.lt_memdelta.proofs.Takes.{drop-bare}
 use Rattle.lt_memdelta.proofs.keys.drop_bare.Goals as goal

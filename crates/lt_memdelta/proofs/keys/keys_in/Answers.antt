@@ -1,6 +1,6 @@
 use Rattle.std.proofs.Common.{ap, is_lt, sym, ◌∙◌}
-use Rattle.lt_model.specs.Key.{below}
-use Rattle.lt_model.specs.Version.{clip}
+use Rattle.lt_terms.specs.Key.{below}
+use Rattle.lt_tables.specs.Version.{clip}
 use Rattle.lt_memdelta.specs.Stamps.{rows_of}
 use Rattle.lt_memdelta.proofs.Clips.{between, from-on, low-first, low-itself, nothing, some-key}
 use Rattle.lt_memdelta.proofs.keys.keys_in.Goals as goal

@@ -1,6 +1,6 @@
 use Rattle.std.proofs.Common.{ap, sym, ◌∙◌}
 use Rattle.std.specs.BTreeMap.{is_at}
-use Rattle.lt_model.specs.Key.{bytes_cmp}
+use Rattle.lt_terms.specs.Key.{bytes_cmp}
 use Rattle.lt_memdelta.specs.Stamps.{rows_of}
 use Rattle.lt_memdelta.specs.declared.change.Change.{Change}
 use Rattle.lt_memdelta.proofs.Puts.{on-err, on-ok, put-old, put-same}

@@ -1,7 +1,7 @@
 use Rattle.std.proofs.Common.{ap, length, sym, ◌+◌, ◌∙◌}
 use Rattle.std.specs.Prelude.{if◌then◌else◌}
 use Rattle.std.specs.BTreeMap.{is_at}
-use Rattle.lt_model.specs.Key.{bytes_cmp}
+use Rattle.lt_terms.specs.Key.{bytes_cmp}
 use Rattle.lt_memdelta.specs.Stamps.{rows_of}
 use Rattle.lt_memdelta.proofs.Takes.{take-count, take-none, take-old}
 use Rattle.lt_memdelta.proofs.keys.take_row.Goals as goal

@@ -1,6 +1,6 @@
 use Rattle.std.proofs.Common.{rules}
 use Rattle.std.proofs.lemmas.List.Sorted.{IsPartitionPoint-from_clause}
-use Rattle.lt_model.specs.Key.{below}
+use Rattle.lt_terms.specs.Key.{below}
 use Rattle.lt_parts.proofs.Bounds.{counted, parted_below}
 use Rattle.lt_parts.proofs.search.count_below.Goals as goal
 

@@ -1,7 +1,7 @@
 use Rattle.std.proofs.Common.{rules}
 use Rattle.std.specs.Prelude.{not}
 use Rattle.std.proofs.lemmas.List.Sorted.{IsPartitionPoint-from_clause}
-use Rattle.lt_model.specs.Key.{below}
+use Rattle.lt_terms.specs.Key.{below}
 use Rattle.lt_parts.proofs.Bounds.{counted, parted_up_to}
 use Rattle.lt_parts.proofs.search.count_up_to.Goals as goal
 

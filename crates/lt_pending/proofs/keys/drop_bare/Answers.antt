@@ -1,7 +1,7 @@
 use Rattle.std.proofs.Common.{List, ap, subst, sym, ◌∙◌}
 use Rattle.std.specs.BTreeMap.{is_at}
 use Rattle.std.specs.List.{AllByRecursion}
-use Rattle.lt_model.specs.Key.{bytes_cmp}
+use Rattle.lt_terms.specs.Key.{bytes_cmp}
 use Rattle.lt_pending.specs.Stamps.{AreNamed, IsNamed, changes_in}
 use Rattle.lt_pending.proofs.Names.{removed-all}
 use Rattle.lt_pending.proofs.Puts.{Held}

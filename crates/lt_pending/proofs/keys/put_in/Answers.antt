@@ -1,6 +1,6 @@
 use Rattle.std.proofs.Common.{List, ap, subst, sym, ◌∙◌}
 use Rattle.std.specs.BTreeMap.{is_at}
-use Rattle.lt_model.specs.Key.{bytes_cmp}
+use Rattle.lt_terms.specs.Key.{bytes_cmp}
 use Rattle.lt_pending.specs.Stamps.{AreNamed, changes_in}
 use Rattle.lt_pending.proofs.Names.{put-named, set-named}
 use Rattle.lt_pending.proofs.Puts.{Held, on-err, on-ok, put-old-at, put-same}

@@ -1,7 +1,7 @@
 use Rattle.std.proofs.Common.{List, ap, length, subst, sym, ◌+◌, ◌∙◌}
 use Rattle.std.specs.Prelude.{if◌then◌else◌}
 use Rattle.std.specs.BTreeMap.{is_at}
-use Rattle.lt_model.specs.Key.{bytes_cmp}
+use Rattle.lt_terms.specs.Key.{bytes_cmp}
 use Rattle.lt_pending.specs.Stamps.{AreNamed, IsNamed, changes_in, later, stamped}
 use Rattle.lt_pending.proofs.Names.{removed-all, set-named}
 use Rattle.lt_pending.proofs.Puts.{Held, Named, Stamped}

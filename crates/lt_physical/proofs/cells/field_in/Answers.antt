@@ -1,5 +1,5 @@
 use Rattle.std.proofs.Common.{ap, sym, ◌∙◌}
-use Rattle.lt_model.specs.Layout.{field_of}
+use Rattle.lt_terms.specs.Layout.{field_of}
 use Rattle.lt_core.specs.View.{view_settings, view_value}
 use Rattle.lt_core.proofs.ViewLaws.{view_struct}
 use Rattle.lt_physical.proofs.Found.{found_at}

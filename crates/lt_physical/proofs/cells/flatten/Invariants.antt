@@ -1,5 +1,5 @@
 use Rattle.std.proofs.Common.{◌≡◌, take}
-use Rattle.lt_model.specs.Layout.{flatten}
+use Rattle.lt_terms.specs.Layout.{flatten}
 use Rattle.lt_core.specs.View.{view_cells, view_layout, view_settings}
 use Rattle.lt_physical.proofs.cells.flatten.Given as goal
 

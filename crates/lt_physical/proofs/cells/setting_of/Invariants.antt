@@ -1,5 +1,5 @@
 use Rattle.std.proofs.Common.{◌≡◌, drop}
-use Rattle.lt_model.specs.Layout.{setting}
+use Rattle.lt_terms.specs.Layout.{setting}
 use Rattle.lt_core.specs.View.{view_settings}
 use Rattle.lt_physical.proofs.cells.setting_of.Given as goal
 

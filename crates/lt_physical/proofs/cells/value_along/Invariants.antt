@@ -1,5 +1,5 @@
 use Rattle.std.proofs.Common.{◌≡◌, drop}
-use Rattle.lt_model.specs.Layout.{value_along}
+use Rattle.lt_terms.specs.Layout.{value_along}
 use Rattle.lt_core.specs.View.{view_value}
 use Rattle.lt_physical.specs.Cells.{value_found}
 use Rattle.lt_physical.proofs.cells.value_along.Given as goal

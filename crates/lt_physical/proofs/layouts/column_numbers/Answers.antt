@@ -1,5 +1,5 @@
 use Rattle.std.proofs.Common.{ap₂, arith, inl, inr, ◌∙◌}
-use Rattle.lt_model.specs.Schema.{IsCatalogue, table_numbered}
+use Rattle.lt_tables.specs.Schema.{IsCatalogue, table_numbered}
 use Rattle.lt_schema.specs.Limits.{with_numbers}
 use Rattle.lt_schema.specs.View.{view_columns, view_version}
 use Rattle.lt_physical.proofs.FewVersions.{few, few_versions}

@@ -1,5 +1,5 @@
 use Rattle.std.specs.Prelude.{◌<◌, ◌≡◌, ◌⊎◌}
-use Rattle.lt_model.specs.Schema.{IsCatalogue, table_numbered}
+use Rattle.lt_tables.specs.Schema.{IsCatalogue, table_numbered}
 use Rattle.lt_physical.proofs.Numbers.{numbers_before}
 use Rattle.lt_physical.proofs.layouts.column_numbers.Given as goal
 

@@ -1,6 +1,6 @@
 use Rattle.std.proofs.Common.{[], add-one, ap, sym, take, take-suc, ◌+◌, ◌++◌, ◌∙◌, ◌∷◌, ◌≡◌}
-use Rattle.lt_model.specs.Layout.{leaves}
-use Rattle.lt_model.specs.Schema.{version_layout}
+use Rattle.lt_terms.specs.Layout.{leaves}
+use Rattle.lt_tables.specs.Schema.{version_layout}
 use Rattle.lt_core.specs.View.{view_kind}
 use Rattle.lt_schema.specs.View.{view_columns}
 use Rattle.lt_physical.proofs.LeafLists.{column_more}

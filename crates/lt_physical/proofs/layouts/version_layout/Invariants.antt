@@ -1,5 +1,5 @@
 use Rattle.std.proofs.Common.{take, ◌≡◌}
-use Rattle.lt_model.specs.Schema.{version_layout}
+use Rattle.lt_tables.specs.Schema.{version_layout}
 use Rattle.lt_core.specs.View.{view_layout}
 use Rattle.lt_schema.specs.View.{view_columns}
 use Rattle.lt_physical.proofs.layouts.version_layout.Given as goal

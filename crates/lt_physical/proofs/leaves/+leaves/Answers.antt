@@ -1,5 +1,5 @@
 use Rattle.std.proofs.Common.{[], add-one, ap, append_assoc, sym, take, take-suc, ◌+◌, ◌++◌, ◌∙◌, ◌∷◌, ◌≡◌}
-use Rattle.lt_model.specs.Layout.{field_leaves, leaves}
+use Rattle.lt_terms.specs.Layout.{field_leaves, leaves}
 use Rattle.lt_core.specs.View.{view_kind, view_layout}
 use Rattle.lt_schema.specs.View.{view_fields}
 use Rattle.lt_physical.proofs.LeafLists.{one_more}

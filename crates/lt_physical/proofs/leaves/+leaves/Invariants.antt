@@ -1,5 +1,5 @@
 use Rattle.std.proofs.Common.{take, ◌++◌, ◌≡◌}
-use Rattle.lt_model.specs.Layout.{field_leaves}
+use Rattle.lt_terms.specs.Layout.{field_leaves}
 use Rattle.lt_core.specs.View.{view_layout}
 use Rattle.lt_schema.specs.View.{view_fields}
 use Rattle.lt_physical.proofs.leaves.+leaves.Given as goal

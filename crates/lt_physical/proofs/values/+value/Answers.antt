@@ -1,7 +1,7 @@
 use Rattle.std.proofs.Common.{Some, ap, arith, sym, ◌∙◌, ◌≡◌}
 use Rattle.std.specs.Prelude.{option_map}
 use Rattle.lt_core.specs.View.{view_scalar, view_value}
-use Rattle.lt_model.specs.Layout.{value_from, value_of}
+use Rattle.lt_terms.specs.Layout.{value_from, value_of}
 use Rattle.lt_physical.specs.Placed.{view_found, view_placed}
 use Rattle.lt_physical.proofs.PlacedCells.{ok_to, primitive_at}
 use Rattle.lt_physical.proofs.values.+value.Goals as goal

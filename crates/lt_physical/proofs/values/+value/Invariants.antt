@@ -1,7 +1,7 @@
 use Rattle.std.proofs.Common.{[], drop, map, ◌*◌, ◌+◌, ◌++◌, ◌∷◌, ◌≡◌}
 use Rattle.std.specs.Prelude.{None, filter_map, if◌then◌else◌, ◌==◌}
 use Rattle.lt_core.specs.View.{view_settings}
-use Rattle.lt_model.specs.Layout.{next_field, value_from}
+use Rattle.lt_terms.specs.Layout.{next_field, value_from}
 use Rattle.lt_physical.specs.Placed.{fields_at, view_placed}
 use Rattle.lt_physical.proofs.values.+value.Given as goal
 

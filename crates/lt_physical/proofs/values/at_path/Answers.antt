@@ -1,5 +1,5 @@
 use Rattle.std.proofs.Common.{ap₂, sym, ◌∙◌}
-use Rattle.lt_model.specs.Layout.{same_path}
+use Rattle.lt_terms.specs.Layout.{same_path}
 use Rattle.lt_physical.proofs.PlacedCells.{found_first}
 use Rattle.lt_physical.proofs.values.at_path.Goals as goal
 

@@ -1,5 +1,5 @@
 use Rattle.std.proofs.Common.{◌≡◌, drop}
-use Rattle.lt_model.specs.Layout.{at_path}
+use Rattle.lt_terms.specs.Layout.{at_path}
 use Rattle.lt_physical.specs.Placed.{view_placed}
 use Rattle.lt_physical.proofs.values.at_path.Given as goal
 

@@ -2,7 +2,7 @@ use Rattle.std.proofs.Common.{ap, subst, sym, ◌++◌, ◌∙◌, ◌≡◌, �
 use Rattle.std.specs.Prelude.{MatchOption, ◌≢◌}
 use Rattle.std.proofs.lemmas.Bool.Decides.{Decides-eqb}
 use Rattle.std.proofs.lemmas.Slice.Eq.{strip_prefix_is}
-use Rattle.lt_model.specs.Layout.{next_field}
+use Rattle.lt_terms.specs.Layout.{next_field}
 use Rattle.lt_physical.proofs.NextFields.{by_more, by_none, by_one, next_not}
 use Rattle.lt_physical.proofs.values.next_field.Goals as goal
 

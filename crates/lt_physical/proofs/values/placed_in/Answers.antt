@@ -1,7 +1,7 @@
 use Rattle.std.proofs.Common.{false, true, ap, eq-eqb, drop, ◌++◌, ◌+◌, ◌∙◌}
 use Rattle.std.proofs.lemmas.Bool.{ne_eqb}
 use Rattle.lt_core.specs.View.{view_cells, view_layout, view_leaf, view_scalar}
-use Rattle.lt_model.specs.Layout.{with_cells}
+use Rattle.lt_terms.specs.Layout.{with_cells}
 use Rattle.lt_physical.specs.Placed.{of_column, view_placed}
 use Rattle.lt_physical.proofs.PlacedCells.{goes_on, opened, placed_more}
 use Rattle.lt_physical.proofs.values.placed_in.Goals as goal

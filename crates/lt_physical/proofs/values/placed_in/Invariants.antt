@@ -1,6 +1,6 @@
 use Rattle.std.proofs.Common.{◌++◌, ◌≡◌, drop}
 use Rattle.lt_core.specs.View.{view_cells, view_layout}
-use Rattle.lt_model.specs.Layout.{with_cells}
+use Rattle.lt_terms.specs.Layout.{with_cells}
 use Rattle.lt_physical.specs.Placed.{of_column, view_placed}
 use Rattle.lt_physical.proofs.values.placed_in.Given as goal
 

@@ -1,6 +1,6 @@
 use Rattle.std.proofs.Common.{[], Some, ap, ap₂, sym, ◌∙◌}
 use Rattle.lt_core.specs.View.{view_cells, view_layout}
-use Rattle.lt_model.specs.Layout.{sets, value_from}
+use Rattle.lt_terms.specs.Layout.{sets, value_from}
 use Rattle.lt_physical.specs.Placed.{view_placed}
 use Rattle.lt_physical.proofs.PlacedCells.{set_column, unset_column}
 use Rattle.lt_physical.proofs.values.unflatten.Goals as goal

@@ -1,7 +1,7 @@
 use Rattle.std.proofs.Common.{ap, refl, subst, sym, true, false, ◌∙◌, ◌≡◌, List, ℕ}
 use Rattle.std.specs.List.{All}
 use Rattle.std.proofs.lemmas.List.Elements.{All-push}
-use Rattle.lt_model.specs.Key.{in_range}
+use Rattle.lt_terms.specs.Key.{in_range}
 use Rattle.lt_core.specs.View.{view_range}
 use Rattle.lt_pump.specs.Order.{IsOutside, IsOwner}
 use Rattle.lt_pump.proofs.OrderLaws.{no_keys, out_next, whole_pushed}

@@ -4,8 +4,8 @@ use Rattle.lt_records.specs.Reading.{NothingElse}
 use Rattle.lt_records.specs.View.{view_found}
 use Rattle.lt_pump.proofs.FeedLaws.{goes_itself, goes_then}
 use Rattle.lt_pump.proofs.ReadLaws.{found_in_none, found_short, found_there, more_ahead, whole_of}
-use Rattle.lt_model.specs.declared.Format.TheVariants as format
-use Rattle.lt_model.specs.Log.{IsFound, partial}
+use Rattle.lt_terms.specs.declared.Format.TheVariants as format
+use Rattle.lt_terms.specs.Log.{IsFound, partial}
 use Rattle.lt_pump.proofs.reading.find.Goals as goal
 
 pub loop-ahead-init : goal.loop-ahead-init

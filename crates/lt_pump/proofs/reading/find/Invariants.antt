@@ -1,7 +1,7 @@
 use Rattle.std.proofs.Common.{◌≡◌, ◌<◌, ◌≤◌, ◌^◌, ◌-◌, length}
-use Rattle.lt_model.specs.Outside.{FeedGoes}
+use Rattle.lt_world.specs.Feed.{FeedGoes}
 use Rattle.std.specs.Prelude.{◌⊎◌}
-use Rattle.lt_model.specs.Disk.{Rose}
+use Rattle.lt_world.specs.Disk.{Rose}
 use Rattle.lt_pump.specs.Reads.{StandAhead, left_of}
 use Rattle.lt_pump.proofs.reading.find.Given as goal
 

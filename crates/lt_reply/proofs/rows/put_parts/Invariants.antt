@@ -1,6 +1,6 @@
 use Rattle.std.proofs.Common.{◌≡◌, ◌++◌, map, take}
 use Rattle.serde_json.specs.View.{view}
-use Rattle.lt_model.specs.SchemaText.{plain_data}
+use Rattle.lt_words.specs.SchemaText.{plain_data}
 use Rattle.lt_core.specs.View.{view_row}
 use Rattle.lt_reply.proofs.rows.put_parts.Given as goal
 

@@ -3,7 +3,7 @@ use Rattle.serde_json.specs.Data.{array}
 use Rattle.serde_json.specs.View.{view}
 use Rattle.serde_json.specs.declared.value.Value.{Value as Json}
 use Rattle.serde_json.proofs.Views.{view-Array}
-use Rattle.lt_model.specs.SchemaText.{plain_data}
+use Rattle.lt_words.specs.SchemaText.{plain_data}
 use Rattle.lt_core.specs.View.{view_row}
 use Rattle.lt_core.specs.declared.value.Value.{Value}
 use Rattle.lt_schema.specs.View.{view_columns}

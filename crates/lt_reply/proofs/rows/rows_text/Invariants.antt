@@ -1,6 +1,6 @@
 use Rattle.std.proofs.Common.{◌≡◌, map, take}
 use Rattle.std.specs.Prelude.{flat_map}
-use Rattle.lt_model.specs.Reply.{row_text}
+use Rattle.lt_words.specs.Reply.{row_text}
 use Rattle.lt_core.specs.View.{view_row}
 use Rattle.lt_schema.specs.View.{view_version}
 use Rattle.lt_reply.specs.Rows.{row_kinds}

@@ -1,7 +1,7 @@
 use Rattle.std.proofs.Common.{ap, arith, inl, inr, length, ◌-◌, ◌⊎◌}
 use Rattle.std.specs.Prelude.{Err, Ok, OnErr, Result}
-use Rattle.lt_model.specs.Outside.{HasRoot}
-use Rattle.lt_model.specs.Store.{slot_place}
+use Rattle.lt_world.specs.Slots.{HasRoot}
+use Rattle.lt_world.specs.Slots.{slot_place}
 use Rattle.lt_disk.proofs.Moments.{Device, changed, changes_on, holds_now, unchanged, weaker, where_told}
 use Rattle.lt_root.specs.Roots.{next_root}
 use Rattle.lt_root.specs.Steps.{HasCommitted}

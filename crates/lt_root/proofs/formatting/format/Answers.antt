@@ -1,8 +1,8 @@
 use Rattle.std.proofs.Common.{List, Option, Some, [], ap, arith, length, refl, subst, sym, ℕ, ◌++◌, ◌∙◌, ◌∷◌, ◌≡◌}
 use Rattle.std.specs.Prelude.{IfSome}
-use Rattle.lt_model.specs.declared.Root.{Root}
-use Rattle.lt_model.specs.Disk.{Only, with_bytes, zeros}
-use Rattle.lt_model.specs.Outside.{HasRoot}
+use Rattle.lt_terms.specs.declared.Root.{Root}
+use Rattle.lt_world.specs.Disk.{Only, with_bytes, zeros}
+use Rattle.lt_world.specs.Slots.{HasRoot}
 use Rattle.lt_disk.proofs.Moments.{Device, changed, changes_on, told_at, where_told}
 use Rattle.lt_root.specs.Roots.{body_of, first_root, first_slots}
 use Rattle.lt_root.proofs.SlotLaws.{lawful_root}

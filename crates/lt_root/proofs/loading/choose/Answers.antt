@@ -2,8 +2,8 @@ use Rattle.std.proofs.Common.{List, None, Option, Some, false, ℕ, ◌≡◌}
 use Rattle.std.specs.Prelude.{IfNone, IfSome, IsTrue}
 use Rattle.std.proofs.lemmas.Bool.{both_ways}
 use Rattle.std.proofs.lemmas.Result.{err_from_is_err_and}
-use Rattle.lt_model.specs.declared.Root.{Root}
-use Rattle.lt_model.specs.Store.{IsSlot, is_open}
+use Rattle.lt_terms.specs.declared.Root.{Root}
+use Rattle.lt_world.specs.Slots.{IsSlot, is_open}
 use Rattle.lt_root.proofs.Choosing.{second_hurt}
 use Rattle.lt_root.proofs.loading.choose.Goals as goal
 

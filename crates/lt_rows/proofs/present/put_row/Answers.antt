@@ -1,7 +1,7 @@
 use Rattle.std.proofs.Common.{ap, ◌∙◌}
 use Rattle.std.specs.BTreeMap.{insert_entry}
 use Rattle.lt_core.specs.View.{view_parts, view_settings}
-use Rattle.lt_model.specs.Key.{bytes_cmp}
+use Rattle.lt_terms.specs.Key.{bytes_cmp}
 use Rattle.lt_rows.specs.declared.present.Present.{Present as CodePresent}
 use Rattle.lt_rows.specs.Present.{Set, laid_over}
 use Rattle.lt_rows.specs.View.{view_rows, view_set}

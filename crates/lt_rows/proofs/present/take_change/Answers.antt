@@ -1,9 +1,9 @@
 use Rattle.std.proofs.Common.{List, ap, sym, ℕ, ◌∙◌}
 use Rattle.std.specs.BTreeMap.{is_at}
 use Rattle.std.specs.Map.{remove_entry}
-use Rattle.lt_model.specs.declared.Op.{Op}
-use Rattle.lt_model.specs.Key.{bytes_cmp}
-use Rattle.lt_model.specs.Log.{change_key}
+use Rattle.lt_terms.specs.declared.Op.{Op}
+use Rattle.lt_terms.specs.Key.{bytes_cmp}
+use Rattle.lt_terms.specs.Log.{change_key}
 use Rattle.lt_records.specs.View.{view_change}
 use Rattle.lt_rows.specs.Present.{rows_by}
 use Rattle.lt_rows.specs.View.{view_rows}

@@ -2,8 +2,8 @@ use Rattle.std.proofs.Common.{ap, sym, ◌∙◌}
 use Rattle.std.specs.Prelude.{None, Option, Some}
 use Rattle.std.specs.Option.{option_map_or}
 use Rattle.lt_core.specs.View.{view_kind, view_value}
-use Rattle.lt_model.specs.Conversion.{conv}
-use Rattle.lt_model.specs.Value.{Value}
+use Rattle.lt_terms.specs.Conversion.{conv}
+use Rattle.lt_terms.specs.Value.{Value}
 use Rattle.lt_rows.proofs.MapViews.{if_ok, set_found}
 use Rattle.lt_rows.proofs.reading.read_column.Goals as goal
 

@@ -1,6 +1,6 @@
 use Rattle.std.proofs.Common.{◌≡◌, ◌++◌, map, take}
 use Rattle.lt_core.specs.View.{view_parts, view_row}
-use Rattle.lt_model.specs.Key.{part_value}
+use Rattle.lt_terms.specs.Key.{part_value}
 use Rattle.lt_rows.specs.Present.{read_set}
 use Rattle.lt_rows.specs.View.{view_readings, view_set}
 use Rattle.lt_rows.proofs.reading.read_row.Given as goal

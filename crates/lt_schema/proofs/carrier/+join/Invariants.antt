@@ -1,5 +1,5 @@
 use Rattle.std.specs.Prelude.{drop, length, ◌≡◌, ◌≤◌}
-use Rattle.lt_model.specs.Schema.{joined_fields}
+use Rattle.lt_tables.specs.Schema.{joined_fields}
 use Rattle.lt_schema.specs.Carriers.{falling_fields}
 use Rattle.lt_schema.specs.View.{view_fields}
 use Rattle.lt_schema.proofs.carrier.+join.Given as goal

@@ -1,6 +1,6 @@
 use Rattle.std.specs.Prelude.{drop, map, option_map, ◌≡◌}
 use Rattle.lt_core.specs.View.{view_kind}
-use Rattle.lt_model.specs.Schema.{joined_all, kinds_given}
+use Rattle.lt_tables.specs.Schema.{joined_all, kinds_given}
 use Rattle.lt_schema.specs.Tables.{view_registered}
 use Rattle.lt_schema.proofs.Joins.{carried}
 use Rattle.lt_schema.proofs.carrier.carrier_of.Given as goal

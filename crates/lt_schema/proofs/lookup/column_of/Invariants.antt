@@ -1,5 +1,5 @@
 use Rattle.std.specs.Prelude.{◌≡◌, drop}
-use Rattle.lt_model.specs.Schema.{column_numbered}
+use Rattle.lt_tables.specs.Schema.{column_numbered}
 use Rattle.lt_schema.specs.View.{view_columns}
 use Rattle.lt_schema.proofs.lookup.column_of.Given as goal
 

@@ -1,6 +1,6 @@
 use Rattle.std.specs.Prelude.{◌≡◌, drop, map}
 use Rattle.std.specs.List.{list_any}
-use Rattle.lt_model.specs.Schema.{has_column}
+use Rattle.lt_tables.specs.Schema.{has_column}
 use Rattle.lt_schema.specs.Tables.{view_registered}
 use Rattle.lt_schema.proofs.lookup.has_column.Given as goal
 

@@ -1,5 +1,5 @@
 use Rattle.std.specs.Prelude.{◌≡◌, drop}
-use Rattle.lt_model.specs.Kind.{kind_at}
+use Rattle.lt_terms.specs.Kind.{kind_at}
 use Rattle.lt_schema.specs.View.{view_fields}
 use Rattle.lt_schema.proofs.lookup.kind_of.Given as goal
 

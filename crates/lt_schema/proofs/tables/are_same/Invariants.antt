@@ -1,5 +1,5 @@
 use Rattle.std.specs.Prelude.{drop, ◌≡◌}
-use Rattle.lt_model.specs.Schema.{same_key_columns}
+use Rattle.lt_tables.specs.Schema.{same_key_columns}
 use Rattle.lt_schema.specs.View.{view_key}
 use Rattle.lt_schema.proofs.tables.are_same.Given as goal
 

@@ -1,5 +1,5 @@
 use Rattle.std.specs.Prelude.{drop, ◌≡◌}
-use Rattle.lt_model.specs.Schema.{is_mismatch}
+use Rattle.lt_tables.specs.Schema.{is_mismatch}
 use Rattle.lt_schema.specs.View.{view_version}
 use Rattle.lt_schema.proofs.tables.mismatches.Given as goal
 

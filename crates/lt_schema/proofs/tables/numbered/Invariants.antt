@@ -1,5 +1,5 @@
 use Rattle.std.specs.Prelude.{drop, ◌≡◌}
-use Rattle.lt_model.specs.Schema.{table_numbered}
+use Rattle.lt_tables.specs.Schema.{table_numbered}
 use Rattle.lt_schema.proofs.tables.numbered.Given as goal
 
 abbrev pub invariant-loop-table : goal.invariant-loop-table

@@ -1,7 +1,7 @@
 use Rattle.std.proofs.Common.{Some, ap, length, refl, set, subst, sym, true, false, ◌≡◌, ◌∙◌}
 use Rattle.std.specs.Prelude.{insert, slice_get}
 use Rattle.std.proofs.lemmas.Option.{same_Some, slice_get_read, slice_get_within}
-use Rattle.lt_model.specs.Schema.{Table}
+use Rattle.lt_tables.specs.Schema.{Table}
 use Rattle.lt_schema.specs.Catalogues.{IsPlace, is_at}
 use Rattle.lt_schema.specs.View.{view_version}
 use Rattle.lt_schema.proofs.TableLists.{added_fresh, added_there, past_other, there, unknown_at}

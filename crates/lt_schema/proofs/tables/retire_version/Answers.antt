@@ -1,6 +1,6 @@
 use Rattle.std.proofs.Common.{ap, set, sym, ◌∙◌}
 use Rattle.std.proofs.lemmas.List.Edits.{map_over_more}
-use Rattle.lt_laws.proofs.CatalogueLaws.{retired_where}
+use Rattle.lt_lemmas.proofs.CatalogueLaws.{retired_where}
 use Rattle.lt_schema.proofs.tables.retire_version.Goals as goal
 
 pub loop-table-preserved : goal.loop-table-preserved

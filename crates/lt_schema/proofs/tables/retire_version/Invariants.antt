@@ -1,5 +1,5 @@
 use Rattle.std.specs.Prelude.{drop, take, ◌++◌, ◌≡◌}
-use Rattle.lt_model.specs.Schema.{without_version}
+use Rattle.lt_tables.specs.Schema.{without_version}
 use Rattle.lt_schema.proofs.tables.retire_version.Given as goal
 
 abbrev pub invariant-loop-table : goal.invariant-loop-table

@@ -1,6 +1,6 @@
 use Rattle.std.proofs.Common.{List, ap, map, ◌∙◌}
 use Rattle.std.proofs.lemmas.List.{take_all}
-use Rattle.lt_model.specs.SchemaText.{column_data}
+use Rattle.lt_words.specs.SchemaText.{column_data}
 use Rattle.lt_schema.specs.View.{view_columns}
 use Rattle.lt_schema.specs.declared.version.Column.{Column}
 use Rattle.lt_schema_json.proofs.Written.{array_written}

@@ -1,6 +1,6 @@
 use Rattle.std.proofs.Common.{◌≡◌, map, take}
 use Rattle.serde_json.specs.View.{view}
-use Rattle.lt_model.specs.SchemaText.{column_data}
+use Rattle.lt_words.specs.SchemaText.{column_data}
 use Rattle.lt_schema.specs.View.{view_columns}
 use Rattle.lt_schema_json.proofs.writing.columns_json.Given as goal
 

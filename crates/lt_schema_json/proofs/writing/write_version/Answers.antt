@@ -1,7 +1,7 @@
 use Rattle.std.proofs.Common.{ap, ◌∙◌}
 use Rattle.serde_json.specs.Written.{compact_text, has_float}
-use Rattle.lt_laws.proofs.SchemaTextLaws.{text_reads_back}
-use Rattle.lt_model.specs.SchemaText.{version_of_text}
+use Rattle.lt_lemmas.proofs.SchemaTextLaws.{text_reads_back}
+use Rattle.lt_words.specs.SchemaText.{version_of_text}
 use Rattle.lt_schema.specs.View.{view_version}
 use Rattle.lt_schema_json.proofs.Written.{version_plain}
 use Rattle.lt_schema_json.proofs.writing.write_version.Goals as goal

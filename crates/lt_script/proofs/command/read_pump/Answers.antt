@@ -1,5 +1,6 @@
 use Rattle.std.proofs.Common.{sym, ◌∙◌}
-use Rattle.lt_model.specs.Script.{count_word, do_pump, small_word}
+use Rattle.lt_tables.specs.Query.{do_pump}
+use Rattle.lt_words.specs.Script.{count_word, small_word}
 use Rattle.lt_script.proofs.LineLaws.{pump_read, pump_whole}
 use Rattle.lt_script.proofs.ReadLaws.{no_first, no_second, pair_is}
 use Rattle.lt_script.proofs.command.read_pump.Goals as goal

@@ -1,5 +1,6 @@
 use Rattle.std.proofs.Common.{sym, ◌∙◌}
-use Rattle.lt_model.specs.Script.{do_retire, small_word, table_word}
+use Rattle.lt_tables.specs.Query.{do_retire}
+use Rattle.lt_words.specs.Script.{small_word, table_word}
 use Rattle.lt_script.proofs.LineLaws.{retire_read, retire_whole}
 use Rattle.lt_script.proofs.ReadLaws.{no_first, no_second, pair_is}
 use Rattle.lt_script.proofs.command.read_retire.Goals as goal

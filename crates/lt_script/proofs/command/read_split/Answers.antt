@@ -1,5 +1,6 @@
 use Rattle.std.proofs.Common.{sym, ap, option_map, ◌∙◌}
-use Rattle.lt_model.specs.Script.{do_split, table_word}
+use Rattle.lt_tables.specs.Query.{do_split}
+use Rattle.lt_words.specs.Script.{table_word}
 use Rattle.lt_pred.specs.View.{view_literals}
 use Rattle.lt_script.proofs.LineLaws.{key_read, split_read, split_whole}
 use Rattle.lt_script.proofs.ReadLaws.{no_first, no_second, pair_is}

@@ -1,7 +1,7 @@
 use Rattle.std.proofs.Common.{List, ap, rules, sym, ℕ, ◌∙◌}
 use Rattle.std.specs.Prelude.{Some}
-use Rattle.lt_model.specs.Script.{large_word, words}
-use Rattle.lt_model.specs.SchemaText.{all_of}
+use Rattle.lt_words.specs.Script.{large_word, words}
+use Rattle.lt_words.specs.SchemaText.{all_of}
 use Rattle.lt_script.proofs.JobLaws.{last_number, next_number, no_last_number, no_number}
 use Rattle.lt_script.proofs.LiteralLaws.{with_front}
 use Rattle.lt_script.proofs.jobs.read_numbers.Goals as goal

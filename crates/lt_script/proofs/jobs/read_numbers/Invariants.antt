@@ -1,7 +1,7 @@
 use Rattle.std.proofs.Common.{◌≡◌, length}
 use Rattle.std.specs.Str.{IsUtf8}
-use Rattle.lt_model.specs.Script.{large_word, words}
-use Rattle.lt_model.specs.SchemaText.{all_of}
+use Rattle.lt_words.specs.Script.{large_word, words}
+use Rattle.lt_words.specs.SchemaText.{all_of}
 use Rattle.lt_script.proofs.LiteralLaws.{with_front}
 use Rattle.lt_script.proofs.jobs.read_numbers.Given as goal
 

@@ -1,7 +1,8 @@
 use Rattle.std.proofs.Common.{ap, sym, ℕ, ◌∙◌}
 use Rattle.std.specs.Prelude.{option_map}
 use Rattle.lt_command.specs.View.{view_mode}
-use Rattle.lt_model.specs.Script.{Mode, mode_words, small_word, words}
+use Rattle.lt_tables.specs.Query.{Mode}
+use Rattle.lt_words.specs.Script.{mode_words, small_word, words}
 use Rattle.lt_script.proofs.JobLaws.{part_parted, part_whole}
 use Rattle.lt_script.proofs.ReadLaws.{no_first, no_second, pair_is}
 use Rattle.lt_script.proofs.jobs.read_part_mode.Goals as goal

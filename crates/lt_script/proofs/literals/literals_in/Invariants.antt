@@ -1,7 +1,7 @@
 use Rattle.std.proofs.Common.{◌≡◌, drop, map}
 use Rattle.serde_json.specs.View.{view}
-use Rattle.lt_model.specs.SchemaText.{all_of}
-use Rattle.lt_model.specs.Script.{literal_in}
+use Rattle.lt_words.specs.SchemaText.{all_of}
+use Rattle.lt_words.specs.Script.{literal_in}
 use Rattle.lt_pred.specs.View.{view_literals}
 use Rattle.lt_script.proofs.LiteralLaws.{with_front}
 use Rattle.lt_script.proofs.literals.literals_in.Given as goal

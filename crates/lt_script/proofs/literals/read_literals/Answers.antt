@@ -1,7 +1,7 @@
 use Rattle.std.proofs.Common.{ap, sym, ◌∙◌}
 use Rattle.std.specs.Prelude.{option_and_then}
 use Rattle.std.proofs.lemmas.Bool.{false≢true}
-use Rattle.lt_model.specs.Script.{literals_in}
+use Rattle.lt_words.specs.Script.{literals_in}
 use Rattle.lt_script.proofs.literals.read_literals.Goals as goal
 
 pub returns-in-Err-2 : goal.returns-in-Err-2

@@ -1,7 +1,8 @@
 use Rattle.std.proofs.Common.{ap, sym, ◌∙◌}
 use Rattle.std.specs.Prelude.{option_map}
 use Rattle.lt_command.specs.View.{view_query}
-use Rattle.lt_model.specs.Script.{count_word, do_page, large_word, small_word, table_word}
+use Rattle.lt_tables.specs.Query.{do_page}
+use Rattle.lt_words.specs.Script.{count_word, large_word, small_word, table_word}
 use Rattle.lt_script.proofs.QueryLaws.{no_count, page_read, page_three, page_two, page_whole, some_count}
 use Rattle.lt_script.proofs.queries.read_page.Goals as goal
 

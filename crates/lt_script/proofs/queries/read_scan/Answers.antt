@@ -1,7 +1,7 @@
 use Rattle.std.proofs.Common.{ap, sym, ◌∙◌}
 use Rattle.std.specs.Prelude.{option_map}
 use Rattle.lt_command.specs.View.{view_query}
-use Rattle.lt_model.specs.Script.{do_scan}
+use Rattle.lt_tables.specs.Query.{do_scan}
 use Rattle.lt_script.proofs.QueryLaws.{scan_read, scan_two, scan_whole}
 use Rattle.lt_script.proofs.queries.read_scan.Goals as goal
 

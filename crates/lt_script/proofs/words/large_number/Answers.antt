@@ -1,7 +1,7 @@
 use Rattle.std.proofs.Common.{◌≡◌, ◌<◌, ◌^◌, sym, ap, ◌∙◌, arith, decimal}
 use Rattle.std.specs.Prelude.{Ok}
-use Rattle.lt_model.specs.Conversion.{same_bytes}
-use Rattle.lt_laws.proofs.ConversionLemmas.{same_bytes-same, same_bytes-self}
+use Rattle.lt_terms.specs.Conversion.{same_bytes}
+use Rattle.lt_lemmas.proofs.ConversionLemmas.{same_bytes-same, same_bytes-self}
 use Rattle.std.proofs.lemmas.Fmt.{parse-decimal}
 use Rattle.lt_script.proofs.WordLaws.{large_is, large_none}
 use Rattle.lt_script.proofs.words.large_number.Goals as goal

@@ -1,6 +1,6 @@
 use Rattle.std.proofs.Common.{[], ap, ap₂, arith, get_or, length, length-append, sym, take_all, ◌+◌, ◌++◌, ◌<◌, ◌∙◌, ◌∷◌, ◌≡◌}
 use Rattle.std.proofs.lemmas.List.{map-append}
-use Rattle.lt_model.specs.Version.{overlay}
+use Rattle.lt_tables.specs.Version.{overlay}
 use Rattle.lt_core.specs.View.{view_cells, view_scalar}
 use Rattle.lt_version.proofs.Overlays.{laid_more}
 use Rattle.lt_version.proofs.row_version.overlaid.Goals as goal

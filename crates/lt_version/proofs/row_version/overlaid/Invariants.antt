@@ -1,6 +1,6 @@
 use Rattle.std.proofs.Common.{length, take, ◌≡◌}
 use Rattle.lt_core.specs.View.{view_cells}
-use Rattle.lt_model.specs.Version.{overlay}
+use Rattle.lt_tables.specs.Version.{overlay}
 use Rattle.lt_version.proofs.row_version.overlaid.Given as goal
 
 abbrev pub invariant-loop-now : goal.invariant-loop-now

@@ -1,6 +1,6 @@
 use Rattle.std.proofs.Common.{ap, append-nil, sym, ◌++◌, ◌∙◌}
 use Rattle.lt_core.specs.View.{view_row}
-use Rattle.lt_model.specs.Reply.{row_text}
+use Rattle.lt_words.specs.Reply.{row_text}
 use Rattle.lt_reply.specs.Rows.{row_kinds}
 use Rattle.lt_schema.specs.View.{view_version}
 use Rattle.lightning_cli.proofs.rows.RowTextsRowSink.row.Goals as goal

@@ -1,6 +1,6 @@
 use Rattle.std.proofs.Common.{sym, ap, inl, inr, refl, ◌∙◌, ◌++◌}
-use Rattle.lt_model.specs.InMemory.{line_read}
-use Rattle.lt_model.specs.Run.{last_moment}
+use Rattle.lt_words.specs.Lines.{line_read}
+use Rattle.lt_machine.specs.Run.{last_moment}
 use Rattle.lt_command.specs.View.{view_command}
 use Rattle.lt_script.specs.Lines.{view_line}
 use Rattle.lt_script.proofs.LineLaws.{kept_reads}

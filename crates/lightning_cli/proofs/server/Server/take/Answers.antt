@@ -1,6 +1,6 @@
 use Rattle.std.proofs.Common.{sym, ap, refl, subst, [], ◌∙◌, ◌++◌, ◌+◌, arith, take, append-nil, append_assoc, take-suc, take_all, add-one}
 use Rattle.lt_engine.specs.State.{IsFed}
-use Rattle.lt_model.specs.Program.{IsFront}
+use Rattle.lt_world.specs.Object.{IsFront}
 use Rattle.lt_pump.proofs.FeedLaws.{goes_itself, goes_then}
 use Rattle.lightning_cli.proofs.OutLaws.{appends_nothing, appends_then, bytes_stay, bytes_then, err_as, err_match, failed_then, out_failed, out_kept, unfailed_itself, unfailed_then}
 use Rattle.lightning_cli.proofs.RunLaws.{flushed, front_of_bytes, run_front, some_more, some_written, stands_at, to_some}

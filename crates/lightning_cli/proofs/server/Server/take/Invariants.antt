@@ -1,7 +1,8 @@
 use Rattle.std.proofs.Common.{◌≡◌, List, ℕ, take, ◌++◌}
 use Rattle.std.specs.Io.KnownBytes.{Appends}
-use Rattle.lt_model.specs.Outside.{BytesGo, FeedGoes}
-use Rattle.lt_model.specs.Run.{Moment}
+use Rattle.lt_world.specs.Object.{BytesGo}
+use Rattle.lt_world.specs.Feed.{FeedGoes}
+use Rattle.lt_machine.specs.Run.{Moment}
 use Rattle.lt_engine.specs.State.{IsFed}
 use Rattle.lightning_cli.specs.Serving.{Stands, Unfailed}
 use Rattle.lightning_cli.proofs.server.Server.take.Given as goal

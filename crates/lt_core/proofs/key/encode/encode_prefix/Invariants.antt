@@ -1,6 +1,6 @@
 use Rattle.std.specs.Prelude.{◌≡◌, ◌++◌, take, flat_map}
 use Rattle.std.specs.Int.{to_be_bytes, w32}
-use Rattle.lt_model.specs.Key.{part_bytes}
+use Rattle.lt_terms.specs.Key.{part_bytes}
 use Rattle.lt_core.specs.View.{view_parts}
 use Rattle.lt_core.proofs.key.encode.encode_prefix.Given as goal
 

@@ -1,6 +1,6 @@
 use Rattle.std.proofs.Common.{ap, ◌∙◌}
 use Rattle.lt_schema.specs.View.{view_version}
-use Rattle.lt_model.specs.Schema.{Table, table_named}
+use Rattle.lt_tables.specs.Schema.{Table, table_named}
 use Rattle.std.specs.Prelude.{option_map}
 use Rattle.lt_engine.proofs.Results.{is_found, no_version, not_live}
 use Rattle.lt_engine.proofs.replica.Replica.live_version.Goals as goal

@@ -1,6 +1,6 @@
 use Rattle.std.proofs.Common.{ap, arith, sym, ◌∙◌}
 use Rattle.std.specs.Option.{option_copied}
-use Rattle.lt_model.specs.Machine.{parts_told}
+use Rattle.lt_machine.specs.Machine.{parts_told}
 use Rattle.lt_pump.specs.Pumps.{streams_of}
 use Rattle.lt_reply.specs.View.{view_part, view_parts}
 use Rattle.lt_engine.specs.State.{memory_of, state_of}

@@ -1,5 +1,5 @@
 use Rattle.std.specs.Prelude.{take, ◌≡◌}
-use Rattle.lt_model.specs.Machine.{parts_told}
+use Rattle.lt_machine.specs.Machine.{parts_told}
 use Rattle.lt_reply.specs.View.{view_parts}
 use Rattle.lt_engine.specs.State.{state_of}
 use Rattle.lt_engine.proofs.replica.Replica.part_lines.Given as goal

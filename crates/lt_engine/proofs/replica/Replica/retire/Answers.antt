@@ -1,9 +1,9 @@
 use Rattle.std.proofs.Common.{ap, eq-eqb, ne_eqb, refl, sym, ◌∙◌}
 use Rattle.std.specs.Prelude.{Some, option_map}
 use Rattle.lt_schema.specs.Faults.{view_retire}
-use Rattle.lt_model.specs.Schema.{Table, table_named}
+use Rattle.lt_tables.specs.Schema.{Table, table_named}
 use Rattle.lt_engine.specs.State.{memory_of, state_with}
-use Rattle.lt_model.specs.Reply.{no_such_table, retire_done}
+use Rattle.lt_words.specs.Reply.{no_such_table, retire_done}
 use Rattle.lt_pump.specs.Pumps.{streams_of}
 use Rattle.lt_engine.proofs.CatalogueChanges.{retired_err, retired_ok}
 use Rattle.lt_engine.proofs.Refusals.{retire_unknown, retire_worn}

@@ -1,7 +1,7 @@
 use Rattle.std.proofs.Common.{ap, ap₂, eq-eqb, ne_eqb, refl, sym, ◌∙◌}
-use Rattle.lt_model.specs.Machine.{refused}
-use Rattle.lt_model.specs.Reply.{schema_done}
-use Rattle.lt_model.specs.Script.{do_schema}
+use Rattle.lt_machine.specs.Machine.{refused}
+use Rattle.lt_words.specs.Reply.{schema_done}
+use Rattle.lt_tables.specs.Query.{do_schema}
 use Rattle.lt_schema.specs.View.{view_version}
 use Rattle.lt_engine.specs.Answers.{text_refusal, version_refusal}
 use Rattle.lt_engine.specs.Steps.{Refuses, Stays}

@@ -1,9 +1,10 @@
 use Rattle.std.proofs.Common.{arith, eq-eqb, ne_eqb, refl, ◌+◌, ◌-◌, ◌∙◌, ◌≡◌}
 use Rattle.std.specs.Prelude.{map}
 use Rattle.std.proofs.lemmas.List.{length-map}
-use Rattle.lt_model.specs.Machine.{part_of, refused, split_parts}
-use Rattle.lt_model.specs.Script.{do_split}
-use Rattle.lt_model.specs.Store.{part_ranges}
+use Rattle.lt_tables.specs.Pump.{part_of}
+use Rattle.lt_machine.specs.Machine.{refused, split_parts}
+use Rattle.lt_tables.specs.Query.{do_split}
+use Rattle.lt_storage.specs.Store.{part_ranges}
 use Rattle.lt_parts.specs.Parts.{ranges}
 use Rattle.lt_pending.specs.Held.{held_in}
 use Rattle.lt_pred.specs.View.{view_literals}

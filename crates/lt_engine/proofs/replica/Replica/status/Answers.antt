@@ -1,7 +1,7 @@
 use Rattle.std.proofs.Common.{ap₂, refl}
 use Rattle.std.specs.Prelude.{None}
-use Rattle.lt_model.specs.Machine.{replies}
-use Rattle.lt_model.specs.Reply.{status_told}
+use Rattle.lt_machine.specs.Machine.{replies}
+use Rattle.lt_words.specs.Reply.{status_told}
 use Rattle.lt_pump.specs.Pumps.{streams_of}
 use Rattle.lt_engine.specs.State.{memory_of}
 use Rattle.lt_engine.proofs.Refusals.{status_free}

@@ -1,7 +1,7 @@
 use Rattle.std.proofs.Common.{List, ap, length, refl, subst, sym, ◌∙◌, ◌≤◌}
 use Rattle.lt_command.specs.View.{view_command}
-use Rattle.lt_model.specs.Machine.{StreamAt}
-use Rattle.lt_model.specs.Script.{do_schema}
+use Rattle.lt_tables.specs.Pump.{StreamAt}
+use Rattle.lt_tables.specs.Query.{do_schema}
 use Rattle.lt_pump.proofs.FeedLaws.{goes_itself}
 use Rattle.lt_engine.proofs.BuiltLaws.{scans_plain}
 use Rattle.lt_engine.proofs.PumpSteps.{pump_spoken, pump_step, some_asked}

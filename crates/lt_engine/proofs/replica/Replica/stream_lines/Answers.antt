@@ -1,6 +1,6 @@
 use Rattle.std.proofs.Common.{ap, arith, length, ◌∙◌}
 use Rattle.std.proofs.lemmas.List.{length-map}
-use Rattle.lt_model.specs.Machine.{streams_told}
+use Rattle.lt_machine.specs.Machine.{streams_told}
 use Rattle.lt_pump.specs.Positions.{low_of}
 use Rattle.lt_pump.specs.Pumps.{streams_of}
 use Rattle.lt_reply.specs.View.{view_stream, view_streams}

@@ -1,5 +1,5 @@
 use Rattle.std.specs.Prelude.{take, ◌≡◌}
-use Rattle.lt_model.specs.Machine.{streams_told}
+use Rattle.lt_machine.specs.Machine.{streams_told}
 use Rattle.lt_reply.specs.View.{view_streams}
 use Rattle.lt_engine.specs.State.{state_of}
 use Rattle.lt_engine.proofs.replica.Replica.stream_lines.Given as goal

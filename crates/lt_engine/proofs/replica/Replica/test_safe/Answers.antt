@@ -1,8 +1,8 @@
 use Rattle.std.proofs.Common.{Some, ap, arith, sym, ◌+◌, ◌∙◌, ℕ}
 use Rattle.std.specs.Prelude.{option_map}
 use Rattle.lt_core.specs.View.{view_parts}
-use Rattle.lt_model.specs.Key.{key_bytes}
-use Rattle.lt_model.specs.Reply.{not_safe}
+use Rattle.lt_terms.specs.Key.{key_bytes}
+use Rattle.lt_words.specs.Reply.{not_safe}
 use Rattle.lt_engine.proofs.ScanLaws.{unsafe_told, unsafe_within}
 use Rattle.lt_engine.proofs.replica.Replica.test_safe.Goals as goal
 

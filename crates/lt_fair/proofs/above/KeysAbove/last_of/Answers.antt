@@ -1,5 +1,5 @@
 use Rattle.std.proofs.Common.{ap, cond, sym, ◌∙◌, ◌≡◌}
-use Rattle.lt_model.specs.Fair.{window_ts}
+use Rattle.lt_tables.specs.Fair.{window_ts}
 use Rattle.lt_fair.specs.Windows.{is_above, keys_above}
 use Rattle.lt_fair.proofs.AboveLaws.{ts_above}
 use Rattle.lt_fair.proofs.above.KeysAbove.last_of.Goals as goal

@@ -1,5 +1,5 @@
 use Rattle.std.proofs.Common.{ap, ◌∙◌}
-use Rattle.lt_model.specs.Fair.{put_key}
+use Rattle.lt_tables.specs.Fair.{put_key}
 use Rattle.lt_fair.proofs.AboveLaws.{put_above}
 use Rattle.lt_fair.proofs.above.KeysAbove.put.Goals as goal
 

@@ -2,7 +2,7 @@ use Rattle.std.proofs.Common.{ap, sym, subst, List, ◌∙◌}
 use Rattle.std.specs.Prelude.{IsTrue}
 use Rattle.std.specs.List.{AllByRecursion}
 use Rattle.lt_core.specs.View.{view_layout, view_range}
-use Rattle.lt_model.specs.Version.{RowVersion, is_version}
+use Rattle.lt_tables.specs.Version.{RowVersion, is_version}
 use Rattle.lt_memdelta.specs.Deltas.{group_rows}
 use Rattle.lt_memdelta.specs.Walks.{walk_rest}
 use Rattle.lt_memdelta.specs.declared.group.Group.{Group}

@@ -1,7 +1,7 @@
 use Rattle.std.proofs.Common.{arith, ap, sym, subst, List, ◌+◌, ◌∙◌, ◌≡◌}
 use Rattle.std.specs.Prelude.{IsTrue, not}
 use Rattle.std.specs.List.{list_all}
-use Rattle.lt_model.specs.Version.{same_name}
+use Rattle.lt_tables.specs.Version.{same_name}
 use Rattle.lt_version.specs.View.{view_version}
 use Rattle.lt_memdelta.specs.Deltas.{group_rows, put_in, table_in, total}
 use Rattle.lt_memdelta.specs.declared.group.Group.{Group}

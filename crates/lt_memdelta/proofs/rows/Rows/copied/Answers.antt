@@ -1,5 +1,5 @@
 use Rattle.std.proofs.Common.{ap, append-nil, arith, length, rules, sym, ◌++◌, ◌+◌, ◌∙◌, ◌≡◌, List}
-use Rattle.lt_model.specs.Version.{RowVersion}
+use Rattle.lt_tables.specs.Version.{RowVersion}
 use Rattle.lt_version.specs.View.{view_version}
 use Rattle.lt_memdelta.specs.Walks.{view_item, walk_rest}
 use Rattle.lt_memdelta.proofs.Splits.{copied-next}

@@ -1,8 +1,8 @@
 use Rattle.std.proofs.Common.{sym, subst}
 use Rattle.std.specs.Prelude.{IsTrue, List}
-use Rattle.lt_model.specs.Key.{below}
-use Rattle.lt_model.specs.Version.{RowVersion, is_ordered}
-use Rattle.lt_laws.proofs.MergeLaws.{filter-ordered}
+use Rattle.lt_terms.specs.Key.{below}
+use Rattle.lt_tables.specs.Version.{RowVersion, is_ordered}
+use Rattle.lt_lemmas.proofs.MergeLaws.{filter-ordered}
 use Rattle.lt_memdelta.specs.Stamps.{rows_of}
 use Rattle.lt_memdelta.proofs.rows.Rows.cut.Goals as goal
 

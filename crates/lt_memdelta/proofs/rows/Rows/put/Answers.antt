@@ -1,7 +1,7 @@
 use Rattle.std.proofs.Common.{Err, Ok, Result, sym, subst, ◌≡◌}
 use Rattle.std.specs.Prelude.{IsTrue, List, OnErr, OnOk}
-use Rattle.lt_model.specs.Version.{RowVersion, is_ordered, put_version}
-use Rattle.lt_laws.proofs.MergeLaws.{put-ordered}
+use Rattle.lt_tables.specs.Version.{RowVersion, is_ordered, put_version}
+use Rattle.lt_lemmas.proofs.MergeLaws.{put-ordered}
 use Rattle.lt_version.specs.View.{view_version}
 use Rattle.lt_memdelta.specs.Stamps.{rows_of}
 use Rattle.lt_memdelta.proofs.rows.Rows.put.Goals as goal

@@ -1,7 +1,7 @@
 use Rattle.std.proofs.Common.{sym, subst, ◌∙◌, ◌≡◌}
 use Rattle.std.specs.Prelude.{IsTrue, List, not}
-use Rattle.lt_model.specs.Version.{RowVersion, is_ordered}
-use Rattle.lt_laws.proofs.MergeLaws.{filter-ordered}
+use Rattle.lt_tables.specs.Version.{RowVersion, is_ordered}
+use Rattle.lt_lemmas.proofs.MergeLaws.{filter-ordered}
 use Rattle.lt_memdelta.specs.Groups.{has_name, without}
 use Rattle.lt_memdelta.specs.Stamps.{rows_of}
 use Rattle.lt_memdelta.proofs.rows.Rows.remove.Goals as goal

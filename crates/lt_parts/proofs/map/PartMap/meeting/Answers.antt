@@ -1,9 +1,9 @@
 use Rattle.std.proofs.Common.{length, subst, sym, ◌∙◌, ◌≤◌}
 use Rattle.std.specs.Prelude.{IsTrue}
 use Rattle.std.specs.Option.{option_copied}
-use Rattle.lt_model.specs.Key.{is_below_high, rise}
-use Rattle.lt_laws.proofs.RangeLaws.{tile_rises}
-use Rattle.lt_laws.proofs.SoundLaws.{not-true}
+use Rattle.lt_terms.specs.Key.{is_below_high, rise}
+use Rattle.lt_lemmas.proofs.RangeLaws.{tile_rises}
+use Rattle.lt_lemmas.proofs.SoundLaws.{not-true}
 use Rattle.lt_parts.specs.Parts.{interval, lows_of}
 use Rattle.lt_parts.proofs.Bounds.{untrue}
 use Rattle.lt_parts.proofs.Meets.{CountsBelow, meeting_none, meeting_of}

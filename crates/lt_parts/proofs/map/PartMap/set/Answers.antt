@@ -1,6 +1,6 @@
 use Rattle.std.proofs.Common.{ap, length, subst, sym, ◌<◌, ◌∙◌}
 use Rattle.std.proofs.lemmas.List.{length-set}
-use Rattle.lt_model.specs.Schema.{change_at}
+use Rattle.lt_tables.specs.Schema.{change_at}
 use Rattle.lt_parts.specs.Parts.{with_times}
 use Rattle.lt_parts.proofs.Edits.{set_is, set_parts, timed}
 use Rattle.lt_parts.proofs.map.PartMap.set.Goals as goal

@@ -1,8 +1,8 @@
 use Rattle.std.proofs.Common.{Some, ap, length, refl, subst, sym, ◌+◌, ◌<◌, ◌∙◌, ◌≡◌}
 use Rattle.std.specs.Prelude.{IsTrue, insert, slice_get}
 use Rattle.std.proofs.lemmas.Option.{slice_get_read, slice_get_within}
-use Rattle.lt_model.specs.Key.{rise}
-use Rattle.lt_laws.proofs.RangeLaws.{tile_rises}
+use Rattle.lt_terms.specs.Key.{rise}
+use Rattle.lt_lemmas.proofs.RangeLaws.{tile_rises}
 use Rattle.lt_parts.specs.Parts.{lows_of}
 use Rattle.lt_parts.specs.Search.{IsInner}
 use Rattle.lt_parts.proofs.Edits.{parts_left, split_left, upper}

@@ -1,8 +1,8 @@
 use Rattle.std.proofs.Common.{Some, arith, length, refl, subst, sym, ap, is_eq, ◌<◌, ◌≤◌, ◌∙◌, ◌≡◌, true, false}
 use Rattle.std.specs.Prelude.{IsTrue, slice_get}
 use Rattle.std.proofs.lemmas.Option.{slice_get_read}
-use Rattle.lt_model.specs.Key.{bytes_cmp, rise, same_key}
-use Rattle.lt_laws.proofs.RangeLaws.{tile_rises}
+use Rattle.lt_terms.specs.Key.{bytes_cmp, rise, same_key}
+use Rattle.lt_lemmas.proofs.RangeLaws.{tile_rises}
 use Rattle.lt_parts.specs.Parts.{lows_of}
 use Rattle.lt_parts.proofs.Edges.{fault_at_edge, fault_none, fault_too_many, inner}
 use Rattle.lt_parts.proofs.map.PartMap.test_split.Goals as goal

@@ -1,6 +1,6 @@
 use Rattle.std.proofs.Common.{arith, false, length, map, rules, subst, sym, true, ◌∙◌, ◌≡◌, ◌≤◌, List, ℕ}
 use Rattle.std.proofs.lemmas.List.Sorted.{IsPartitionPoint-from_clause}
-use Rattle.lt_model.specs.Key.{in_range}
+use Rattle.lt_terms.specs.Key.{in_range}
 use Rattle.lt_core.specs.View.{view_range}
 use Rattle.lt_pump.specs.Given.{AreDisjoint, HasKey, IsOutOfAll}
 use Rattle.lt_pump.specs.Order.{AreByLow}

@@ -1,6 +1,6 @@
 use Rattle.std.proofs.Common.{ap, arith, length, map, refl, sym, ◌∙◌, subst, ℕ, List, inl, inr}
 use Rattle.lt_pump.specs.Positions.{Ran, stream_of}
-use Rattle.lt_model.specs.Reply as replies
+use Rattle.lt_tables.specs.Pump as replies
 use Rattle.lt_pump.specs.Reads.{StandAhead, left_of}
 use Rattle.lt_pump.specs.View.{view_subscription}
 use Rattle.lt_pump.proofs.FeedLaws.{goes_itself, goes_then}

@@ -1,8 +1,8 @@
 use Rattle.std.proofs.Common.{None, subst, ◌≡◌}
-use Rattle.lt_model.specs.declared.Format.TheVariants as format
-use Rattle.lt_model.specs.Log.{is_item}
+use Rattle.lt_terms.specs.declared.Format.TheVariants as format
+use Rattle.lt_terms.specs.Log.{is_item}
 use Rattle.std.specs.Prelude.{IsTrue}
-use Rattle.lt_model.specs.Outside.{is_deliverable}
+use Rattle.lt_tables.specs.Pump.{is_deliverable}
 use Rattle.lt_records.specs.View.{view_change}
 use Rattle.lt_pump.specs.Positions.{breaks_there, stream_of}
 use Rattle.lt_pump.proofs.PassLaws.{deliverable, passes}

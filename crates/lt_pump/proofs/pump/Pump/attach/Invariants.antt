@@ -1,7 +1,7 @@
 use Rattle.std.proofs.Common.{◌≡◌, ◌≤◌}
 use Rattle.std.specs.Option.{option_copied}
-use Rattle.lt_model.specs.Outside.{FeedGoes}
-use Rattle.lt_model.specs.Disk.{Rose}
+use Rattle.lt_world.specs.Feed.{FeedGoes}
+use Rattle.lt_world.specs.Disk.{Rose}
 use Rattle.lt_pump.proofs.AttachLaws.{Fitting}
 use Rattle.lt_pump.proofs.TileLaws.{Tiling}
 use Rattle.lt_pump.proofs.pump.Pump.attach.Given as goal

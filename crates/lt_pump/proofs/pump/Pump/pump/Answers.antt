@@ -1,6 +1,6 @@
 use Rattle.std.proofs.Common.{arith, length, map, refl}
 use Rattle.std.proofs.lemmas.List.{length-set}
-use Rattle.lt_model.specs.Key.{ranges_from}
+use Rattle.lt_terms.specs.Key.{ranges_from}
 use Rattle.lt_pump.specs.View.{view_subscription}
 use Rattle.lt_pump.proofs.FeedLaws.{goes_itself}
 use Rattle.lt_pump.proofs.PumpLaws.{behind_here, behind_then, has_pumped, has_pumped_some, lows_stay, numbered_here, ranges_stay, streams_stay, within}

@@ -1,7 +1,7 @@
 use Rattle.std.proofs.Common.{ap, arith, length}
 use Rattle.std.proofs.lemmas.List.{length-set}
-use Rattle.lt_model.specs.Key.{ranges_from}
-use Rattle.lt_model.specs.Machine.{StreamAt}
+use Rattle.lt_terms.specs.Key.{ranges_from}
+use Rattle.lt_tables.specs.Pump.{StreamAt}
 use Rattle.lt_fair.specs.View.{view_point}
 use Rattle.lt_pump.specs.Positions.{started, stream_of}
 use Rattle.lt_pump.proofs.SubLaws.{here}

@@ -1,6 +1,6 @@
 use Rattle.std.proofs.Common.{◌≡◌, ◌++◌, ◌∷◌, [], subst, sym, arith}
 use Rattle.std.proofs.lemmas.List.{map_push}
-use Rattle.lt_model.specs.Value.{is_number}
+use Rattle.lt_terms.specs.Value.{is_number}
 use Rattle.lt_core.specs.View.{view_setting, view_settings}
 use Rattle.lt_codecs.specs.Codec.{◌then◌, read_times, u16, where_true}
 use Rattle.lt_codecs.specs.LogCodec as log

@@ -1,5 +1,5 @@
 use Rattle.std.proofs.Common.{◌≡◌, ◌+◌, ◌-◌, ◌*◌}
-use Rattle.lt_model.specs.Value.{is_number}
+use Rattle.lt_terms.specs.Value.{is_number}
 use Rattle.lt_core.specs.View.{view_settings}
 use Rattle.lt_codecs.specs.Codec.{◌then◌, read_times, u16, where_true}
 use Rattle.lt_codecs.specs.LogCodec as log

@@ -1,5 +1,5 @@
 use Rattle.std.proofs.Common.{◌≡◌, drop, map}
-use Rattle.lt_model.specs.Value.{rises_above}
+use Rattle.lt_terms.specs.Value.{rises_above}
 use Rattle.lt_core.specs.View.{view_settings}
 use Rattle.lt_records.proofs.reading.value.rise.Given as goal
 

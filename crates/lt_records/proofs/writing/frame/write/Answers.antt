@@ -1,6 +1,6 @@
 use Rattle.std.proofs.Common.{rules, ◌≡◌, ◌≤◌, ◌++◌, length, arith}
 use Rattle.lt_codecs.specs.Codec.{bytes32, u8}
-use Rattle.lt_model.specs.Log.{kind_byte}
+use Rattle.lt_terms.specs.Log.{kind_byte}
 use Rattle.lt_records.specs.View.{view_item}
 use Rattle.lt_records.proofs.Spellings.{frame_of, too_long}
 use Rattle.lt_records.proofs.writing.frame.write.Goals as goal

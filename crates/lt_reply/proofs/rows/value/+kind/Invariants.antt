@@ -1,6 +1,6 @@
 use Rattle.std.proofs.Common.{◌≡◌, map, take}
 use Rattle.serde_json.specs.View.{view}
-use Rattle.lt_model.specs.Value.{null_value}
+use Rattle.lt_terms.specs.Value.{null_value}
 use Rattle.lt_core.specs.View.{view_value}
 use Rattle.lt_schema.specs.View.{view_field}
 use Rattle.lt_schema_json.specs.Reading.{view_struct}

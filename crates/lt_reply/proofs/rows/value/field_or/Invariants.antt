@@ -1,5 +1,5 @@
 use Rattle.std.proofs.Common.{◌≡◌, drop}
-use Rattle.lt_model.specs.Value.{value_at}
+use Rattle.lt_terms.specs.Value.{value_at}
 use Rattle.lt_schema_json.specs.Reading.{view_struct}
 use Rattle.lt_reply.proofs.rows.value.field_or.Given as goal
 

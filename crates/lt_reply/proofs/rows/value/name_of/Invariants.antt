@@ -1,5 +1,5 @@
 use Rattle.std.proofs.Common.{◌≡◌, drop}
-use Rattle.lt_model.specs.Reply.{name_of_number}
+use Rattle.lt_words.specs.Reply.{name_of_number}
 use Rattle.lt_reply.proofs.rows.value.name_of.Given as goal
 
 abbrev pub invariant-loop-named : goal.invariant-loop-named

@@ -1,6 +1,6 @@
 use Rattle.std.proofs.Common.{◌≡◌, string_bytes, take}
 use Rattle.std.specs.Prelude.{flat_map}
-use Rattle.lt_model.specs.Reply.{delta_line}
+use Rattle.lt_words.specs.Reply.{delta_line}
 use Rattle.lt_reply.specs.View.{view_deltas}
 use Rattle.lt_reply.proofs.text.deltas.deltas_text.Given as goal
 

@@ -1,6 +1,6 @@
 use Rattle.std.proofs.Common.{List, ap, ◌∙◌}
 use Rattle.std.specs.Prelude.{flat_map}
-use Rattle.lt_model.specs.Reply.{delta_line}
+use Rattle.lt_words.specs.Reply.{delta_line}
 use Rattle.lt_reply.proofs.DeltaLines.{deltas_lines}
 use Rattle.lt_reply.specs.View.{view_deltas}
 use Rattle.lt_reply.specs.declared.reply.DeltaLine.{DeltaLine}

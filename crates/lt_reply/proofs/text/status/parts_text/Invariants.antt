@@ -1,5 +1,5 @@
 use Rattle.std.proofs.Common.{◌≡◌, ◌++◌, drop, string_bytes}
-use Rattle.lt_model.specs.Reply.{part_lines}
+use Rattle.lt_words.specs.Reply.{part_lines}
 use Rattle.lt_reply.specs.View.{view_parts}
 use Rattle.lt_reply.proofs.text.status.parts_text.Given as goal
 

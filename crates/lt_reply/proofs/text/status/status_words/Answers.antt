@@ -1,6 +1,6 @@
 use Rattle.std.proofs.Common.{List, ap, ◌∙◌}
 use Rattle.std.specs.Prelude.{flat_map}
-use Rattle.lt_model.specs.Reply.{part_lines, stream_line}
+use Rattle.lt_words.specs.Reply.{part_lines, stream_line}
 use Rattle.lt_reply.proofs.StatusLines.{status_lines}
 use Rattle.lt_reply.specs.View.{view_parts, view_streams}
 use Rattle.lt_reply.specs.declared.reply.PartLine.{PartLine}

@@ -1,6 +1,6 @@
 use Rattle.std.proofs.Common.{◌≡◌, string_bytes, take}
 use Rattle.std.specs.Prelude.{flat_map}
-use Rattle.lt_model.specs.Reply.{stream_line}
+use Rattle.lt_words.specs.Reply.{stream_line}
 use Rattle.lt_reply.specs.View.{view_streams}
 use Rattle.lt_reply.proofs.text.status.streams_text.Given as goal
 

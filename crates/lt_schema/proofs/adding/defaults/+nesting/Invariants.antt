@@ -1,5 +1,5 @@
 use Rattle.std.specs.Prelude.{◌≡◌, drop, nat_le}
-use Rattle.lt_model.specs.Kind.{nestings}
+use Rattle.lt_terms.specs.Kind.{nestings}
 use Rattle.lt_schema.specs.View.{view_fields}
 use Rattle.lt_schema.proofs.adding.defaults.+nesting.Given as goal
 

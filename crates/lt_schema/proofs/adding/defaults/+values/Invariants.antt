@@ -1,6 +1,6 @@
 use Rattle.std.specs.Prelude.{◌≡◌, drop}
 use Rattle.lt_core.specs.View.{view_settings}
-use Rattle.lt_model.specs.Value.{are_fields, fields_of}
+use Rattle.lt_terms.specs.Value.{are_fields, fields_of}
 use Rattle.lt_schema.proofs.adding.defaults.+values.Given as goal
 
 abbrev pub invariant-are_fields-loop-number : goal.invariant-are_fields-loop-number

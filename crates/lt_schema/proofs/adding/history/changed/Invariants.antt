@@ -1,5 +1,5 @@
 use Rattle.std.specs.Prelude.{◌≡◌, drop, map}
-use Rattle.lt_model.specs.Schema.{changed_kind}
+use Rattle.lt_tables.specs.Schema.{changed_kind}
 use Rattle.lt_schema.specs.Tables.{view_registered}
 use Rattle.lt_schema.specs.View.{view_columns}
 use Rattle.lt_schema.proofs.adding.history.changed.Given as goal

@@ -1,5 +1,5 @@
 use Rattle.std.specs.Prelude.{◌≡◌, drop, map}
-use Rattle.lt_model.specs.Schema.{default_again}
+use Rattle.lt_tables.specs.Schema.{default_again}
 use Rattle.lt_schema.specs.Tables.{view_registered}
 use Rattle.lt_schema.specs.View.{view_columns}
 use Rattle.lt_schema.proofs.adding.history.given_again.Given as goal

@@ -1,5 +1,5 @@
 use Rattle.std.specs.Prelude.{◌≡◌, drop, map}
-use Rattle.lt_model.specs.Schema.{reused_column}
+use Rattle.lt_tables.specs.Schema.{reused_column}
 use Rattle.lt_schema.specs.Tables.{view_registered}
 use Rattle.lt_schema.specs.View.{view_columns}
 use Rattle.lt_schema.proofs.adding.history.reused.Given as goal

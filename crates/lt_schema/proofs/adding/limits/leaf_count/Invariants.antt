@@ -1,5 +1,5 @@
 use Rattle.std.specs.Prelude.{[], ◌+◌, ◌++◌, ◌∷◌, map, ◌≡◌}
-use Rattle.lt_model.specs.Schema.{live_version}
+use Rattle.lt_tables.specs.Schema.{live_version}
 use Rattle.lt_schema.specs.Limits.{leaves_in}
 use Rattle.lt_schema.specs.Tables.{view_registered}
 use Rattle.lt_schema.specs.View.{view_columns}

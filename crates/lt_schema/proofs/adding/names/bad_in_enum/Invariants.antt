@@ -1,5 +1,5 @@
 use Rattle.std.specs.Prelude.{◌≡◌, drop, map}
-use Rattle.lt_model.specs.Schema.{bad_name_of}
+use Rattle.lt_tables.specs.Schema.{bad_name_of}
 use Rattle.lt_schema.proofs.adding.names.bad_in_enum.Given as goal
 
 abbrev pub invariant-loop-name : goal.invariant-loop-name

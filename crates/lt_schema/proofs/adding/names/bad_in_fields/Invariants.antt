@@ -1,5 +1,5 @@
 use Rattle.std.specs.Prelude.{◌≡◌, drop}
-use Rattle.lt_model.specs.Schema.{bad_name_of, field_names}
+use Rattle.lt_tables.specs.Schema.{bad_name_of, field_names}
 use Rattle.lt_schema.specs.View.{view_fields}
 use Rattle.lt_schema.proofs.adding.names.bad_in_fields.Given as goal
 

@@ -1,5 +1,5 @@
 use Rattle.std.specs.Prelude.{◌≡◌, drop}
-use Rattle.lt_model.specs.Schema.{field_numbers, numbers_fault}
+use Rattle.lt_tables.specs.Schema.{field_numbers, numbers_fault}
 use Rattle.lt_schema.specs.View.{view_fields}
 use Rattle.lt_schema.proofs.adding.numbers.bad_field.Given as goal
 

@@ -1,5 +1,5 @@
 use Rattle.std.specs.Prelude.{◌≡◌, drop}
-use Rattle.lt_model.specs.Schema.{repeated_within}
+use Rattle.lt_tables.specs.Schema.{repeated_within}
 use Rattle.lt_schema.specs.View.{view_fields}
 use Rattle.lt_schema.proofs.adding.repeated.+names.Given as goal
 

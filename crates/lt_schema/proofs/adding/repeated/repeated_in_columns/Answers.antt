@@ -1,5 +1,5 @@
 use Rattle.std.proofs.Common.{map, rules, sym, take, ◌++◌, ◌∙◌, ◌≡◌, None}
-use Rattle.lt_model.specs.Schema.{repeated_in}
+use Rattle.lt_tables.specs.Schema.{repeated_in}
 use Rattle.lt_core.specs.View.{view_kind}
 use Rattle.lt_schema.specs.declared.version.Column.{Column}
 use Rattle.lt_schema.specs.declared.version.KeyColumn.{KeyColumn}

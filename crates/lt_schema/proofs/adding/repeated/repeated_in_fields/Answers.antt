@@ -1,5 +1,5 @@
 use Rattle.std.proofs.Common.{[], ap, map, sym, take, ◌∙◌}
-use Rattle.lt_model.specs.Schema.{field_names, repeated}
+use Rattle.lt_tables.specs.Schema.{field_names, repeated}
 use Rattle.lt_schema.specs.View.{view_fields}
 use Rattle.lt_schema.proofs.NameLists.{names_of_fields}
 use Rattle.lt_schema.proofs.SeenLaws.{so_far_all, so_far_more, so_far_twice}

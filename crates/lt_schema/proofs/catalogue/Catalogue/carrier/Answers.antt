@@ -1,5 +1,5 @@
 use Rattle.std.proofs.Common.{ap, map, ◌∙◌, ◌≡◌}
-use Rattle.lt_model.specs.Schema.{versions_of}
+use Rattle.lt_tables.specs.Schema.{versions_of}
 use Rattle.lt_schema.specs.Tables.{view_registered}
 use Rattle.lt_schema.proofs.TableLists.{carrier_is}
 use Rattle.lt_schema.proofs.catalogue.Catalogue.carrier.Goals as goal

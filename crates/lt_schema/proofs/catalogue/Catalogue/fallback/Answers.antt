@@ -2,8 +2,8 @@ use Rattle.std.proofs.Common.{ap, map, sym, ◌∙◌, ◌≡◌}
 use Rattle.std.specs.Option.{option_copied}
 use Rattle.std.specs.Prelude.{option_map, unwrap_or}
 use Rattle.lt_core.specs.View.{view_value}
-use Rattle.lt_model.specs.Value.{null_value}
-use Rattle.lt_model.specs.Schema.{Column, versions_of}
+use Rattle.lt_terms.specs.Value.{null_value}
+use Rattle.lt_tables.specs.Schema.{Column, versions_of}
 use Rattle.lt_schema.specs.Lookups.{declared}
 use Rattle.lt_schema.specs.Tables.{view_registered}
 use Rattle.lt_schema.proofs.TableLists.{fallback_is}

@@ -1,5 +1,5 @@
 use Rattle.std.proofs.Common.{ap, ◌∙◌}
-use Rattle.lt_model.specs.Schema.{schema_fault}
+use Rattle.lt_tables.specs.Schema.{schema_fault}
 use Rattle.lt_schema.specs.View.{view_version}
 use Rattle.lt_schema.proofs.NextLaws.{next_of, stays_lawful}
 use Rattle.lt_schema.proofs.catalogue.Catalogue.install.Goals as goal

@@ -1,5 +1,5 @@
 use Rattle.std.proofs.Common.{refl, subst, sym}
-use Rattle.lt_model.specs.Schema.{IsCatalogue, nothing_yet}
+use Rattle.lt_tables.specs.Schema.{IsCatalogue, nothing_yet}
 use Rattle.lt_schema.proofs.catalogue.Catalogue.new.Goals as goal
 
 pub invariant_of-result : goal.invariant_of-result

@@ -1,5 +1,5 @@
 use Rattle.std.proofs.Common.{ap, subst, sym, ◌∙◌}
-use Rattle.lt_model.specs.Schema.{IsCatalogue, after_retiring, retire_fault}
+use Rattle.lt_tables.specs.Schema.{IsCatalogue, after_retiring, retire_fault}
 use Rattle.lt_schema.proofs.catalogue.Catalogue.retire.Goals as goal
 
 pub invariant_of-self : goal.invariant_of-self

@@ -1,7 +1,7 @@
 use Rattle.std.proofs.Common.{ap, subst, sym, ◌∙◌}
 use Rattle.std.specs.Option.{option_or}
 use Rattle.std.proofs.lemmas.Result.{err_from_is_err_and}
-use Rattle.lt_model.specs.Schema.{IsCatalogue}
+use Rattle.lt_tables.specs.Schema.{IsCatalogue}
 use Rattle.lt_schema.specs.Faults.{Finds, fault_against, fault_alone, view_refusal}
 use Rattle.lt_schema.specs.View.{view_version}
 use Rattle.lt_schema.proofs.FaultLaws.{fault_is, found_first}

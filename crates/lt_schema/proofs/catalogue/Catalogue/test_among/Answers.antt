@@ -1,6 +1,6 @@
 use Rattle.std.proofs.Common.{ap, arith, length, sym, ◌∙◌, ◌≡◌, ◌≤◌}
 use Rattle.std.proofs.lemmas.List.{length-map}
-use Rattle.lt_model.specs.Schema.{versions_of}
+use Rattle.lt_tables.specs.Schema.{versions_of}
 use Rattle.lt_schema.specs.Tables.{view_registered}
 use Rattle.lt_schema.proofs.NextLaws.{few_versions}
 use Rattle.lt_schema.proofs.catalogue.Catalogue.test_among.Goals as goal

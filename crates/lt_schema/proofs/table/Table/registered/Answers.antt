@@ -1,6 +1,6 @@
 use Rattle.std.proofs.Common.{ap, arith, suc, sym, ◌∙◌, ◌≡◌}
 use Rattle.std.specs.Prelude.{option_map, slice_get}
-use Rattle.lt_model.specs.Schema.{registered}
+use Rattle.lt_tables.specs.Schema.{registered}
 use Rattle.lt_schema.specs.Tables.{view_registered}
 use Rattle.lt_schema.proofs.Versions.{registered_is, whole_is}
 use Rattle.lt_schema.proofs.table.Table.registered.Goals as goal

@@ -1,6 +1,6 @@
 use Rattle.std.proofs.Common.{List, ap, arith, length, map, sym, ◌-◌, ◌<◌, ◌∙◌, ◌≤◌}
 use Rattle.std.proofs.lemmas.List.{length-map}
-use Rattle.lt_model.specs.Schema.{Registered, change_at, retired_version, with_retired}
+use Rattle.lt_tables.specs.Schema.{Registered, change_at, retired_version, with_retired}
 use Rattle.lt_schema.specs.Tables.{view_registered, view_table}
 use Rattle.lt_schema.proofs.Versions.{retired_at, retired_past}
 use Rattle.lt_schema.proofs.table.Table.retire.Goals as goal

@@ -1,5 +1,5 @@
 use Rattle.std.proofs.Common.{◌≡◌, drop}
-use Rattle.lt_model.specs.SchemaText.{columns_in}
+use Rattle.lt_words.specs.SchemaText.{columns_in}
 use Rattle.lt_schema.specs.View.{view_columns}
 use Rattle.lt_schema_json.specs.Reading.{values_view}
 use Rattle.lt_schema_json.proofs.ReadTexts.{with_columns}

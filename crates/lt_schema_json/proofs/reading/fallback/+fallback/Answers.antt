@@ -3,8 +3,8 @@ use Rattle.std.proofs.lemmas.Grind.{common_steps}
 use Rattle.std.specs.Slice.Iter.{iter_rest}
 use Rattle.serde_json.specs.View.{view}
 use Rattle.lt_core.specs.View.{view_kind}
-use Rattle.lt_model.specs.SchemaText.{default_in}
-use Rattle.lt_model.specs.Value.{fields_of}
+use Rattle.lt_words.specs.SchemaText.{default_in}
+use Rattle.lt_terms.specs.Value.{fields_of}
 use Rattle.lt_schema_json.specs.Reading.{struct_in}
 use Rattle.lt_schema_json.proofs.Defaults.{all_values, lacks_item, next_value, spare_item, struct_list, wrong_item}
 use Rattle.lt_schema_json.proofs.reading.fallback.+fallback.Goals as goal

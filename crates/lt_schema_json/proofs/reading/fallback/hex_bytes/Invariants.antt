@@ -1,5 +1,5 @@
 use Rattle.std.proofs.Common.{◌≡◌, length}
-use Rattle.lt_model.specs.Query.{hex_pairs}
+use Rattle.lt_tables.specs.Query.{hex_pairs}
 use Rattle.lt_schema_json.proofs.Fronts.{with_front}
 use Rattle.lt_schema_json.proofs.reading.fallback.hex_bytes.Given as goal
 

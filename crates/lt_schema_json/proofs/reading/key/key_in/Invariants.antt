@@ -1,5 +1,5 @@
 use Rattle.std.proofs.Common.{◌≡◌, drop}
-use Rattle.lt_model.specs.SchemaText.{all_of, key_column}
+use Rattle.lt_words.specs.SchemaText.{all_of, key_column}
 use Rattle.lt_schema.specs.View.{view_key}
 use Rattle.lt_schema_json.specs.Reading.{values_view}
 use Rattle.lt_schema_json.proofs.Fronts.{with_front}

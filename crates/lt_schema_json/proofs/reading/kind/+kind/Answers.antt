@@ -1,8 +1,8 @@
 use Rattle.std.proofs.Common.{◌≡◌, ◌∙◌, Some, None, ap, sym, arith, option_map}
 use Rattle.std.proofs.lemmas.Grind.{common_steps}
 use Rattle.serde_json.specs.View.{view}
-use Rattle.lt_model.specs.SchemaText.{as_list, triples_in}
-use Rattle.lt_model.specs.Kind.{field_kinds_of}
+use Rattle.lt_words.specs.SchemaText.{as_list, triples_in}
+use Rattle.lt_terms.specs.Kind.{field_kinds_of}
 use Rattle.lt_schema.specs.View.{view_field}
 use Rattle.lt_schema_json.specs.Reading.{one_field, values_view}
 use Rattle.lt_schema_json.proofs.Fronts.{goes_on, is_done, stops_at}

@@ -1,6 +1,6 @@
 use Rattle.std.proofs.Common.{◌≡◌, drop}
 use Rattle.std.specs.Prelude.{map}
-use Rattle.lt_model.specs.SchemaText.{all_of}
+use Rattle.lt_words.specs.SchemaText.{all_of}
 use Rattle.lt_schema.specs.View.{view_field}
 use Rattle.lt_schema_json.specs.Reading.{one_field, values_view}
 use Rattle.lt_schema_json.proofs.Fronts.{with_front}

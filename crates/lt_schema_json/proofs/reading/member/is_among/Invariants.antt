@@ -1,5 +1,5 @@
 use Rattle.std.proofs.Common.{◌≡◌, drop, map}
-use Rattle.lt_model.specs.Schema.{is_among}
+use Rattle.lt_tables.specs.Schema.{is_among}
 use Rattle.lt_schema_json.proofs.reading.member.is_among.Given as goal
 
 abbrev pub invariant-loop-other : goal.invariant-loop-other

@@ -1,5 +1,5 @@
 use Rattle.std.proofs.Common.{◌≡◌, string_bytes, take}
-use Rattle.lt_model.specs.SchemaText.{hex_string}
+use Rattle.lt_words.specs.SchemaText.{hex_string}
 use Rattle.lt_schema_json.proofs.writing.value.hex_string.Given as goal
 
 abbrev pub invariant-loop-byte : goal.invariant-loop-byte

@@ -1,5 +1,5 @@
 use Rattle.std.proofs.Common.{List, arith, subst, sym, ℕ, ◌≡◌}
-use Rattle.lt_model.specs.declared.Extent.{Extent}
+use Rattle.lt_terms.specs.declared.Extent.{Extent}
 use Rattle.lt_space.specs.Extents.{Extents, Takes}
 use Rattle.lt_space.specs.Order.{AreSorted}
 use Rattle.lt_space.proofs.GapLaws.{none_passed}

@@ -1,7 +1,7 @@
 use Rattle.std.proofs.Common.{List, ℕ, arith, drop, subst, sym, ◌+◌, ◌≡◌}
 use Rattle.std.specs.Prelude.{IsTrue, insert}
-use Rattle.lt_model.specs.declared.Extent.{Extent}
-use Rattle.lt_model.specs.Store.{are_apart}
+use Rattle.lt_terms.specs.declared.Extent.{Extent}
+use Rattle.lt_world.specs.Extents.{are_apart}
 use Rattle.lt_space.specs.declared.gaps.Passed.{Passed}
 use Rattle.lt_space.specs.Extents.{AreApart}
 use Rattle.lt_space.specs.Order.{AreInOrder}

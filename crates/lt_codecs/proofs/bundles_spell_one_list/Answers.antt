@@ -1,5 +1,0 @@
-use Rattle.lt_codecs.proofs.BundleLaws.{one_list}
-use Rattle.lt_codecs.proofs.bundles_spell_one_list.Goals as goal
-
-pub returns : goal.returns
-returns c = one_list

@@ -1,5 +1,0 @@
-use Rattle.lt_codecs.proofs.ManifestLaws.{decides}
-use Rattle.lt_codecs.proofs.decides_manifests.Goals as goal
-
-pub returns : goal.returns
-returns c = decides

@@ -1,5 +1,0 @@
-use Rattle.lt_codecs.proofs.ManifestLaws.{prefix_free}
-use Rattle.lt_codecs.proofs.manifests_are_prefix_free.Goals as goal
-
-pub returns : goal.returns
-returns c = prefix_free

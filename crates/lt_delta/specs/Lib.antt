@@ -1,0 +1,6 @@
+pub mod View
+pub mod Reading
+pub mod Writing
+pub mod Layouts
+pub mod Entries
+pub mod Meeting

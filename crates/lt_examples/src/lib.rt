@@ -1,0 +1,4 @@
+//! Computed examples of the definitions.
+#![tactic(auto)]
+
+pub mod examples;

@@ -1,5 +1,0 @@
-use Rattle.lt_laws.proofs.ReachedSession.{session_is_reached}
-use Rattle.lt_laws.proofs.a_session_is_reached.Goals as goal
-
-pub returns : goal.returns
-returns c = session_is_reached

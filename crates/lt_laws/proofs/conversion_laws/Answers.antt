@@ -1,5 +1,0 @@
-use Rattle.lt_laws.proofs.ConversionLemmas.{conversion_laws}
-use Rattle.lt_laws.proofs.conversion_laws.Goals as goal
-
-pub returns : goal.returns
-returns c = conversion_laws

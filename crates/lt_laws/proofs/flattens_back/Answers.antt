@@ -1,5 +1,0 @@
-use Rattle.lt_laws.proofs.FlattenLemmas.{flattens_back}
-use Rattle.lt_laws.proofs.flattens_back.Goals as goal
-
-pub returns : goal.returns
-returns c = flattens_back

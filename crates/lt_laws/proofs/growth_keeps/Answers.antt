@@ -1,5 +1,0 @@
-use Rattle.lt_laws.proofs.GrowthLaws.{growth_keeps}
-use Rattle.lt_laws.proofs.growth_keeps.Goals as goal
-
-pub returns : goal.returns
-returns c = growth_keeps

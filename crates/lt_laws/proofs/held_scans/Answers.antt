@@ -1,5 +1,0 @@
-use Rattle.lt_laws.proofs.MemoryLaws.{held_scans}
-use Rattle.lt_laws.proofs.held_scans.Goals as goal
-
-pub returns : goal.returns
-returns c = held_scans

@@ -1,5 +1,0 @@
-use Rattle.lt_laws.proofs.OneImage.{holds_one}
-use Rattle.lt_laws.proofs.holds_one.Goals as goal
-
-pub returns : goal.returns
-returns c = holds_one

@@ -1,5 +1,0 @@
-use Rattle.lt_laws.proofs.MachineLaws.{machine_laws}
-use Rattle.lt_laws.proofs.machine_laws.Goals as goal
-
-pub returns : goal.returns
-returns c = machine_laws

@@ -1,5 +1,0 @@
-use Rattle.lt_laws.proofs.NeverFalls.{minimum_never_falls}
-use Rattle.lt_laws.proofs.minimum_never_falls.Goals as goal
-
-pub returns : goal.returns
-returns c = minimum_never_falls

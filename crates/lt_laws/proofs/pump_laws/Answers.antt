@@ -1,5 +1,0 @@
-use Rattle.lt_laws.proofs.StopLaws.{pump_laws}
-use Rattle.lt_laws.proofs.pump_laws.Goals as goal
-
-pub returns : goal.returns
-returns c = pump_laws

@@ -1,5 +1,0 @@
-use Rattle.lt_laws.proofs.FrontStands.{sound_grows}
-use Rattle.lt_laws.proofs.sound_grows.Goals as goal
-
-pub returns : goal.returns
-returns c = sound_grows

@@ -1,5 +1,0 @@
-use Rattle.lt_laws.proofs.AllSteps.{step_keeps}
-use Rattle.lt_laws.proofs.step_keeps.Goals as goal
-
-pub returns : goal.returns
-returns c = step_keeps

@@ -1,5 +1,0 @@
-use Rattle.lt_laws.proofs.ListLaws.{whole-claims}
-use Rattle.lt_laws.proofs.whole_claims.Goals as goal
-
-pub returns : goal.returns
-returns c = whole-claims

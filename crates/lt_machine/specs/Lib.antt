@@ -1,0 +1,10 @@
+pub mod Machine
+pub mod Sound
+pub mod Run
+pub mod Outside
+pub mod Step
+pub mod Program
+pub mod InMemory
+pub mod OverStore
+pub mod Claims
+pub mod Laws

@@ -1,0 +1,11 @@
+pub mod Adding
+pub mod Depth
+pub mod LawfulTexts
+pub mod Lists
+pub mod Numbers
+pub mod Rebuilt
+pub mod RuleLaws
+pub mod Spellings
+pub mod TextLaws
+pub mod Values
+pub mod Whole

@@ -1,0 +1,6 @@
+use Rattle.std.proofs.Common.{◌∙◌}
+use Rattle.lt_manifest.proofs.Numbers.{found}
+use Rattle.lt_manifest.proofs.reading.ids.is_among.Goals as goal
+
+pub returns : goal.returns
+returns c = c.is_ok.ensures.value ∙ found c.args.numbers.now c.args.number c.binary_search.result c.requires c.binary_search.ensures.position

@@ -1,6 +1,0 @@
-use Rattle.lt_memdelta.specs.Deltas.{EachRow}
-use Rattle.lt_memdelta.specs.Tested.{StandsBy}
-use Rattle.lt_memdelta.proofs.tests.rows_in_random_order_are_walked_in_order.Given as goal
-
-abbrev pub invariant-loop-i : goal.invariant-loop-i
-invariant-loop-i g l = EachRow (StandsBy l.i) l.delta

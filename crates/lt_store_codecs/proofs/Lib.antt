@@ -1,0 +1,10 @@
+pub mod IndexCodecs
+pub mod KindCodecs
+pub mod KindLaws
+pub mod SpelledCatalogue
+pub mod ManifestCodecs
+pub mod BundleCodecs
+pub mod BundleLaws
+pub mod StoreLaws
+pub mod ManifestLaws
+pub mod IndexLaws

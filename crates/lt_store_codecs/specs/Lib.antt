@@ -1,0 +1,3 @@
+pub mod StoreCodec
+pub mod BundleCodec
+pub mod StoreFront

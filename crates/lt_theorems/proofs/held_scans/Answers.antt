@@ -1,0 +1,5 @@
+use Rattle.lt_laws.proofs.MemoryLaws.{held_scans}
+use Rattle.lt_theorems.proofs.held_scans.Goals as goal
+
+pub returns : goal.returns
+returns c = held_scans

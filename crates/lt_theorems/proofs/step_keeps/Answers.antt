@@ -1,0 +1,5 @@
+use Rattle.lt_laws.proofs.AllSteps.{step_keeps}
+use Rattle.lt_theorems.proofs.step_keeps.Goals as goal
+
+pub returns : goal.returns
+returns c = step_keeps

@@ -1,0 +1,5 @@
+use Rattle.lt_laws.proofs.MemoryLaws.{unrefused_asks}
+use Rattle.lt_theorems.proofs.unrefused_asks.Goals as goal
+
+pub returns : goal.returns
+returns c = unrefused_asks

@@ -1,0 +1,4 @@
+pub mod SchemaText
+pub mod Script
+pub mod Reply
+pub mod Lines
