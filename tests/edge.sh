@@ -1,6 +1,7 @@
 #!/usr/bin/env bash
-# The built program where no proof reaches: closed descriptors, files that are no feed, an output that is full, slow or closed, a script that
-# is typed, a store that is open elsewhere. Says what is not as it has to be, and ends with 1 then. LIGHTNING names another program to try.
+# The built program where no proof reaches: words that it does not know, closed descriptors, files that are no feed, an output that is full,
+# slow or closed, calls that fail in mid-run, a script that is typed, a store that is open elsewhere. Says what is not as it has to be, and
+# ends with 1 then. LIGHTNING names another program to try.
 set -u
 root=$(cd "$(dirname "$0")/.." && pwd)
 example=$root/examples/one_stream
@@ -29,14 +30,21 @@ fresh() {
 fresh
 makes_stores=$(grep -c '^ok init' "$folder/init")
 
-# The command has to end with this status, and this has to be the last line that it wrote.
-expect() { # what, status, last line, command
+# The command has to end with this status. In $wrote is what it wrote.
+tries() { # what, status, command
   fresh
-  local wrote ended
-  wrote=$(cd "$folder" && timeout 20 $as_who bash -c "$4" 2> "$folder/errors")
-  ended=$?
+  wrote=$(cd "$folder" && timeout 20 $as_who bash -c "$3" 2> "$folder/errors")
+  local ended=$?
   [ "$ended" = "$2" ] || say "$1: status $ended, and not $2"
+}
+# The last line that it wrote has to be this, or all of what it wrote.
+expect() { # what, status, last line, command
+  tries "$1" "$2" "$4"
   [ "$(tail -n 1 <<< "$wrote")" = "$3" ] || say "$1: the last line is '$(tail -n 1 <<< "$wrote")', and not '$3'"
+}
+expect_all() { # what, status, lines, command
+  tries "$1" "$2" "$4"
+  [ "$wrote" = "$3" ] || say "$1: it wrote '$wrote', and not '$3'"
 }
 as_who=
 # (what starts this script may have SIGPIPE ignored, which programs inherit)
@@ -44,6 +52,19 @@ export PLAIN=
 env --default-signal=PIPE true 2> /dev/null && PLAIN="env --default-signal=PIPE"
 
 expect "all is well" 0 "ok status" '"$P" run < script'
+
+# Words that it does not know, whatever the script says.
+usage="usage: lightning init LIMIT | run | gen N"
+for words in "" "run now" gen; do
+  expect_all "the words '$words'" 2 "$usage" "\"\$P\" $words < script"
+done
+
+# The bytes of a script: a last line that nothing ends, an empty line, lines of the greatest length and longer, and one that is no text.
+expect_all "a last line without its end" 0 $'refused E7 NoStream 1\nok pump 0 records 0 offset 18 checkpoint 0 stop UnknownTable 1' \
+  'printf "\n# a comment\npump 1 1\npump 0 1" | "$P" run'
+a_comment='comment() { printf "#"; head -c "$1" /dev/zero | tr "\0" x; echo; }'
+expect_all "long lines, and one that is no text" 0 $'refused E1 BadLine\nrefused E1 BadLine\nrefused E3 UnknownTable "t"' \
+  "$a_comment"'; { comment 1048575; comment 1048576; printf "#\377\nscan t 1 1"; } | "$P" run'
 
 # No file takes the place of a standard stream.
 expect "standard input is closed" 3 "stopped 3 ScriptFault" '"$P" run <&-'
@@ -74,9 +95,28 @@ else
   echo "edge: as root and without setpriv, no file is unreadable: not tried"
 fi
 
-# An output that takes no more.
+# An output that takes no more, at once or behind some replies, and where a last line says why the run ends.
 expect "the output is full" 4 "" '"$P" run < script > /dev/full'
+expect "the output takes 1,024 bytes" 4 "the same 1024" 'yes status | head -n 99 > many; "$P" run < many > whole
+  (trap "" XFSZ; ulimit -f 1; exec "$P" run < many > part); ended=$?
+  cmp -n 1024 whole part && echo "the same $(stat -c %s part)"; exit $ended'
+expect "the output is full, and the words are unknown" 4 "" '"$P" gen < script > /dev/full'
+expect "the output is full, and the feed fails" 4 "" 'rm feed.0; mkfifo feed.0; "$P" run < script > /dev/full'
+expect "the output is full, and the script fails" 4 "" '"$P" run < . > /dev/full'
 expect "the reader closes" 4 "" 'yes status | head -n 20000 | $PLAIN "$P" run | head -n 1 > /dev/null; exit "${PIPESTATUS[2]}"'
+
+# A read of the feed that fails, made to by strace: the first one, of the header, ends the run; of the reads of a pump one that fails ends the
+# pump, and the next pump goes on behind the records that were taken.
+if strace -o /dev/null true 2> /dev/null; then
+  fails='fails() { strace -o /dev/null -P feed.0 -e inject=pread64:error=EIO:when="$1" "$P" run; }; { sed -n 2,3p script; echo "pump 0 10"; }'
+  expect_all "the first read of the feed fails" 7 "stopped 7 FeedFault" "$fails | fails 1"
+  expect_all "the first read of a pump fails" 0 \
+    $'ok schema t 1\nrefused E23 FeedFault\nok pump 0 records 2 offset 84 checkpoint 7 stop End' "$fails | fails 2"
+  expect_all "the second read of a pump fails" 0 \
+    $'ok schema t 1\nrefused E23 FeedFault\nok pump 0 records 0 offset 84 checkpoint 7 stop End' "$fails | fails 3"
+else
+  echo "edge: no strace: reads of the feed that fail in mid-run are not tried"
+fi
 
 # Sends lines, each after the reply to the line before. In $typed is what was answered.
 typed() { # what, script

@@ -8,7 +8,7 @@ use Rattle.lt_world.specs.Feed.{FeedGrows}
 use Rattle.lt_world.specs.Object.{StaysTold}
 use Rattle.lt_machine.specs.Sound.{Session}
 use Rattle.lt_machine.specs.Step.{Serves}
-use Rattle.lt_laws.proofs.GrowthLaws.{growth_keeps}
+use Rattle.lt_session_laws.proofs.GrowthLaws.{growth_keeps}
 use Rattle.lt_steps.proofs.GrowsLaws.{memory_grows}
 
 -- what holds of what is told

@@ -8,7 +8,7 @@ use Rattle.lt_words.specs.Lines.{is_built}
 use Rattle.lt_machine.specs.Machine.{State, added_text, adds_delta, asks_for_job, cat_of, columns_fault, compaction_asked, count_fault, edge_of, error_of, first_below, is_broken, is_worn, is_write, last_version_retired, literals_fault, not_done_yet, of_query, of_split, part_asked, part_misfit, query_interval, query_of, refused, registered_named, retain_fault, schema_refused, split_key, table_asked, unknown_in, unknown_stream, version_asked}
 use Rattle.lt_terms.specs.Key.{max_key}
 use Rattle.lt_tables.specs.Query.{Literal, Query}
-use Rattle.lt_laws.proofs.StepLaws.{refusals}
+use Rattle.lt_session_laws.proofs.StepLaws.{refusals}
 use Rattle.lt_words.specs.Reply.{Refusal, at_edge, bad_column, bad_schema, is_last_version, job_open, key_too_long, needs_reopen, no_job, no_partition, no_stream, no_such_delta, no_such_table, no_such_version, not_safe, too_many_deltas, too_many_parts, too_old, version_retired, worn, wrong_literal}
 use Rattle.lt_machine.specs.Run.{is_fault}
 use Rattle.lt_tables.specs.Schema.{Column, Table, first_of, registered, table_named, when}

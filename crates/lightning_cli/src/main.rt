@@ -7,8 +7,6 @@ mod program;
 mod rows;
 mod serve;
 mod server;
-#[cfg(test)]
-mod tests;
 
 use crate::program::run;
 use lt_disk::FileDisk;

@@ -18,6 +18,7 @@ mod stop;
 mod store;
 mod whole;
 
+pub use extents::read_extent;
 pub use index::{BundleEntry, DeltaIndex, Entries, TableIndex, TableIndexes};
 pub use refusal::DeltaRefusal;
 pub use store::{read_index, seal};

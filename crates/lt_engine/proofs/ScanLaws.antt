@@ -5,7 +5,7 @@ use Rattle.std.proofs.lemmas.Slice.Zip.{length-zip}
 use Rattle.std.specs.Prelude.{None, Option, Some, find, map, nat_lt, option_map, zip, ◌&&◌, ◌^◌}
 use Rattle.lt_lemmas.proofs.ConversionLemmas.{same_bytes-same}
 use Rattle.lt_lemmas.proofs.ListFacts.{find_held}
-use Rattle.lt_laws.proofs.MemoryLaws.{unrefused_asks}
+use Rattle.lt_session_laws.proofs.MemoryLaws.{unrefused_asks}
 use Rattle.lt_lemmas.proofs.TableLaws.{fine_table}
 use Rattle.lt_terms.specs.Conversion.{same_bytes}
 use Rattle.lt_terms.specs.Key.{Range, key_bytes, meets, ranges_from}

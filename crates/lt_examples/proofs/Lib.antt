@@ -7,3 +7,4 @@ pub mod LaterChecks
 pub mod FreshChecks
 pub mod ReopenChecks
 pub mod PointChecks
+pub mod PlannedLineChecks

@@ -7,7 +7,7 @@ use Rattle.std.proofs.Common.{[], false, negsuc, pos, refl, ◌∷◌, ◌≡◌
 use Rattle.std.specs.Prelude.{Err, None, Ok, Some, codes}
 use Rattle.lt_terms.specs.Value.{bool_value, bytes_value, field_value, int_value, no_fields, null_value, struct_value}
 use Rattle.lt_terms.specs.Kind.{enumeration, field_kind, no_kinds, plain, structured}
-use Rattle.lt_tables.specs.Query.{both, compares, do_compact, do_job_begin, do_page, do_pump, do_scan, do_split, int_literal, is_null, major, minor, negated, text_literal}
+use Rattle.lt_tables.specs.Query.{both, compares, do_page, do_pump, do_scan, do_split, int_literal, is_null, negated, text_literal}
 use Rattle.lt_tables.specs.Schema.{version_not_next}
 use Rattle.lt_tables.specs.Pump.{at_unfair}
 use Rattle.lt_tables.specs.Fair.{late}
@@ -45,18 +45,6 @@ comment = refl
 empty_line : line_of [] ≡ skipped
 unfolding computes
 empty_line = refl
-
-compact_line : line_of (codes "compact 0 minor 0 2") ≡ spells_command (do_compact 0 (minor (0 ∷ 2 ∷ [])))
-unfolding computes
-compact_line = refl
-
-one_id : line_of (codes "compact 0 minor 0") ≡ bad_line
-unfolding computes
-one_id = refl
-
-job_line : line_of (codes "job begin 0 major") ≡ spells_command (do_job_begin 0 major)
-unfolding computes
-job_line = refl
 
 scan_line : line_of (codes "scan t 1 7") ≡ spells_command (do_scan (plain_query (codes "t") 1 7 None))
 unfolding computes

@@ -399,3 +399,13 @@ effect_of_fits n (v ∷ vs) a = effect_fits n v.op v.cells (effect_of vs) a.0 (e
 pub effect_coerced : (from to : List Leaf) (vs : List RowVersion) → AreLong (length from) vs → effect_of (coerce_all from to vs) ≡ option_map (coerce from to) (effect_of vs)
 effect_coerced from to [] a = refl
 effect_coerced from to (v ∷ vs) a = ap (effect_by v.op (coerce from to v.cells)) (effect_coerced from to vs a.1) ∙ effect_along from to v.op v.cells (effect_of vs) a.0 (effect_of_fits (length from) vs a.1)
+
+-- ---- as many cells as leaves
+
+map_length : {A B : Type 0} (f : A → B) (xs : List A) → length (map f xs) ≡ length xs
+map_length f [] = refl
+map_length f (x ∷ xs) = ap suc (map_length f xs)
+
+pub coerce_length : (from to : List Leaf) (cells : List Cell) → length (coerce from to cells) ≡ length to
+unfolding coerce
+coerce_length from to cells = map_length _ to

@@ -1,8 +1,8 @@
 -- The order of row versions, and what the merge of ordered lists is.
-use Rattle.std.proofs.Common.{List, [], ap, eq-eqb, eqb-true, false, refl, subst, sym, true, ℕ, ◌++◌, ◌∙◌, ◌∷◌, ◌≡◌}
+use Rattle.std.proofs.Common.{List, [], ap, arith, eq-eqb, eqb-true, false, inl, inr, refl, subst, suc, sym, true, zero, ℕ, ◌++◌, ◌∙◌, ◌∷◌, ◌≡◌}
 use Rattle.std.specs.Ordering.{is_eq, is_lt}
 use Rattle.std.proofs.lemmas.Cmp.{alike_right}
-use Rattle.std.specs.Prelude.{Bool, IsTrue, None, Option, Some, cond, find, map, ◌&&◌, ◌==◌}
+use Rattle.std.specs.Prelude.{Bool, Contains, IsTrue, None, Option, Some, cond, find, map, ◌&&◌, ◌==◌, ◌⊎◌}
 use Rattle.std.proofs.lemmas.Bool.{and_from, and_parts, false≢true, true≢false}
 use Rattle.lt_terms.specs.Key.{Range, in_range, same_key}
 use Rattle.lt_tables.specs.Version.{IsMerge, RowVersion, clip, is_ordered, merge, put_version, put_versions, same_name, stands_before}
@@ -255,3 +255,37 @@ merge-twice vs lists = merge-only (vs ∷ lists) (merge (vs ∷ vs ∷ lists)) (
   ordered = merge-ordered (vs ∷ vs ∷ lists);
   first = λ key t. merge-first key t (vs ∷ vs ∷ lists) ∙ firsts-twice (find (named key t) vs) (map (find (named key t)) lists);
 })
+
+-- ---- what is merged
+
+put_from_by : (v w : RowVersion) (ws : List RowVersion) (x : RowVersion) (b c : Bool) → (Contains (put_version v ws) x → (v ≡ x) ⊎ Contains ws x) → Contains (cond b (v ∷ w ∷ ws) (cond c (v ∷ ws) (w ∷ put_version v ws))) x → (v ≡ x) ⊎ Contains (w ∷ ws) x
+put_from_by v w ws x true c f (zero, l, e) = inl e
+put_from_by v w ws x true c f (suc k, l, e) = inr (k, omega (arith, l), e)
+put_from_by v w ws x false true f (zero, l, e) = inl e
+put_from_by v w ws x false true f (suc k, l, e) = inr (suc k, omega (arith, l), e)
+put_from_by v w ws x false false f (zero, l, e) = inr (zero, omega arith, e)
+put_from_by v w ws x false false f (suc k, l, e) = elim (f (k, omega (arith, l), e)) [ inl d ↦ inl d | inr (i, m, g) ↦ inr (suc i, omega (arith, m), g) ]
+
+put_from : (v : RowVersion) (ws : List RowVersion) (x : RowVersion) → Contains (put_version v ws) x → (v ≡ x) ⊎ Contains ws x
+put_from v [] x (zero, l, e) = inl e
+put_from v [] x (suc k, l, e) = absurd (omega (arith, l))
+put_from v (w ∷ ws) x h = put_from_by v w ws x (stands_before v w) (same_name v w) (put_from v ws x) h
+
+pub puts_from : (vs ws : List RowVersion) (x : RowVersion) → Contains (put_versions vs ws) x → Contains vs x ⊎ Contains ws x
+puts_from [] ws x h = inr h
+puts_from (v ∷ vs) ws x h = elim (put_from v (put_versions vs ws) x h) [
+  | inl e ↦ inl (zero, omega arith, e)
+  | inr i ↦ elim (puts_from vs ws x i) [ inl (k, l, e) ↦ inl (suc k, omega (arith, l), e) | inr j ↦ inr j ]
+]
+
+-- a merged version is one of those merged
+pub merged_member : (lists : List (List RowVersion)) (v : RowVersion) → Contains (merge lists) v → (l : List RowVersion) × Contains lists l × Contains l v
+unfolding merge
+merged_member [] v h = absurd (omega (arith, h.1))
+merged_member (vs ∷ lists) v h = elim (puts_from vs (merge lists) v h) [
+  | inl i ↦ (vs, (zero, omega arith, refl), i)
+  | inr i ↦ (let r = merged_member lists v i in (r.0, (let k = r.1 in (suc k.0, omega (arith, k.1), k.2)), r.2))
+]
+
+pub same_names : (v w : RowVersion) → same_name v w ≡ true → (v.key ≡ w.key) × (v.ts ≡ w.ts)
+same_names v w h = let p = and_parts (same_key v.key w.key) (v.ts == w.ts) h in (same-key v.key w.key p.0, eqb-true v.ts w.ts p.1)

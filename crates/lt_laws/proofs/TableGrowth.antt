@@ -1,21 +1,22 @@
 -- A table that grew by a version, or of which one was retired: what its carriers keep, and that cells go over to the new carriers.
 use Rattle.std.proofs.Common.{Bool, List, [], ap, ap₂, arith, cond, eq-eqb, eqb-true, false, leb-true, refl, subst, sym, true, zero, ℕ, ◌∙◌, ◌∷◌, ◌≡◌}
-use Rattle.std.specs.Prelude.{Contains, IsTrue, None, Option, Some, find, flat_map, is_some, map, nat_le, not, option_and_then, option_map, ◌&&◌, ◌==◌, ◌||◌}
+use Rattle.std.specs.Prelude.{Contains, IsTrue, None, Option, Some, find, flat_map, is_some, map, nat_le, nat_lt, not, option_and_then, option_map, ◌&&◌, ◌==◌, ◌||◌}
 use Rattle.std.specs.List.{AllByRecursion, list_all, list_any}
 use Rattle.std.proofs.lemmas.Bool.{and_from, and_parts, false≢true}
 use Rattle.std.specs.Option.{option_map_or}
-use Rattle.lt_terms.specs.Kind.{Kind, nesting, rank_number}
+use Rattle.lt_terms.specs.Kind.{FieldKinds, Kind, enumeration, field_kind, nesting, no_kinds, plain, rank_number, structured}
 use Rattle.lt_terms.specs.Layout.{Cell, Leaf, bool_cell, cell_to, coerce, flatten, is_unset, lacking, layout_of, leaf_cell, null_cell, same_leaf, sets, setting, unset}
-use Rattle.lt_terms.specs.Value.{Value}
+use Rattle.lt_terms.specs.Value.{Value, is_number, rises_above}
 use Rattle.lt_terms.specs.Conversion.{conv}
 use Rattle.lt_terms.specs.Log.{bit}
 use Rattle.lt_tables.specs.Schema.{Catalogue, Column, Registered, Table, carrier, carrier_layout, carriers, carriers_of, column_live, column_numbered, column_numbers, has_column, joined_all, kinds_given, table_numbered}
-use Rattle.lt_storage.specs.Store.{leaf_covered}
+use Rattle.lt_storage.specs.Store.{IsLayout, are_store_kinds, is_store_kind, leaf_covered}
 use Rattle.lt_machine.specs.Laws.{lies_within}
-use Rattle.lt_lemmas.proofs.ConversionLemmas.{is_rising}
+use Rattle.lt_codecs.proofs.ListFacts.{all_map}
+use Rattle.lt_lemmas.proofs.ConversionLemmas.{are_rising, is_rising}
 use Rattle.lt_lemmas.proofs.TableLaws.{IsFineTable}
 use Rattle.lt_lemmas.proofs.ListFacts.{find_held, mapped_some}
-use Rattle.lt_laws.proofs.ReadLaws.{are_fine, filter_found, has_number, kind_found, live_numbers, numbers_found}
+use Rattle.lt_laws.proofs.ReadLaws.{all_tests, are_fine, filter_found, has_number, kind_found, live_numbers, numbers_found}
 use Rattle.lt_laws.proofs.LeafLaws.{AreColumns, IsMarked, Mark, all_marked, found_leaf, leaf_at, leaf_found, leaf_in, leaf_in_layout, leaf_is, leaf_of, mark_of}
 use Rattle.lt_laws.proofs.ListFacts.{all_at, any_held, flat_held, from_filter_map, in_map}
 use Rattle.lt_laws.proofs.ScanLaws.{any_of}
@@ -36,6 +37,25 @@ all_rising (c ∷ cs) h = let p = and_parts (is_rising c.1 && nat_le (nesting c.
 
 pub are_columns : (t : Table) → IsFineTable t → AreColumns (cols t)
 are_columns t f = let a = are_fine t f in record { rise = a.0; kinds = all_rising (cols t) a.1 }
+
+mutual
+  store_rises : (k : Kind) → IsTrue (is_store_kind k) → IsTrue (is_rising k)
+  store_rises (plain r) h = refl
+  store_rises (enumeration names) h = refl
+  store_rises (structured ks) h = stores_rise ks 0 h
+
+  stores_rise : (ks : FieldKinds) (low : ℕ) → IsTrue (are_store_kinds low ks) → IsTrue (are_rising low ks)
+  stores_rise no_kinds low h = refl
+  stores_rise (field_kind n name k ks) low h =
+      let u = and_parts (is_number n && nat_lt low n && is_store_kind k) (are_store_kinds n ks) h in
+      let w = and_parts (is_number n && nat_lt low n) (is_store_kind k) u.0 in
+      and_from _ _ (and_from _ _ (and_parts (is_number n) (nat_lt low n) w.0).1 (store_rises k w.1)) (stores_rise ks n u.1)
+
+pub layout_columns : (ls : List Leaf) (l : IsLayout ls) → AreColumns l.0
+layout_columns ls l =
+    let test : ℕ × Kind → Bool = λ c. is_number c.0 && is_store_kind c.1 && nat_le (nesting c.1) 4 in
+    let p = and_parts (rises_above 0 (map (λ c. c.0) l.0)) (list_all test l.0) l.2 in
+    record { rise = p.0; kinds = all_map (λ c. IsTrue (test c)) (λ c. IsTrue (is_rising c.1)) l.0 (λ c h. store_rises c.1 (and_parts (is_number c.0) (is_store_kind c.1) (and_parts (is_number c.0 && is_store_kind c.1) (nat_le (nesting c.1) 4) h).0).1) (all_tests test l.0 p.1) }
 
 pub has_some : (ks : List Kind) (c : Kind) → joined_all ks ≡ Some c → (k : Kind) × Contains ks k
 has_some [] c e = cc

@@ -1,6 +1,6 @@
 -- What a pump takes: the changes of fair items are keyed, items that were taken are a front of the stream's front, and they compose.
 use Rattle.std.proofs.Common.{Bool, List, [], ap, append-nil, append_assoc, ap₂, arith, cond, drop, false, length, not, refl, subst, sym, true, ℕ, ◌++◌, ◌+◌, ◌<◌, ◌∙◌, ◌∷◌, ◌≡◌, ◌≤◌}
-use Rattle.std.specs.Prelude.{IsTrue, None, Option, Some, find, flat_map, fold, if◌then◌else◌, is_none, map, nat_lt, option_and_then, option_map, ◌&&◌, ◌-◌, ◌==◌, ◌^◌, ◌||◌}
+use Rattle.std.specs.Prelude.{IsTrue, None, Option, Some, find, flat_map, fold, if◌then◌else◌, is_none, map, nat_lt, option_and_then, option_map, ◌&&◌, ◌==◌, ◌^◌, ◌||◌}
 use Rattle.std.specs.List.{AllByRecursion, list_all}
 use Rattle.std.proofs.lemmas.Bool.{and_from, and_parts, not-false}
 use Rattle.std.specs.Option.{option_map_or}

@@ -1,2 +1,2 @@
-//! The laws of the replica machine that its steps and images cite (in `proofs/`).
+//! The laws of rows, row versions, deltas and images that the laws of sessions and the engine cite (in `proofs/`).
 #![tactic(auto)]

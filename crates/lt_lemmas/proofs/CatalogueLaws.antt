@@ -1,4 +1,4 @@
--- A catalogue that grew keeps what was fair: registered versions stay, with their keys and columns.
+-- The tables of a lawful catalogue stand by rising number.
 use Rattle.std.proofs.Common.{Bool, [], arith, cond, false, ltb-false, ltb-true, refl, subst, sym, true, ℕ, ◌++◌, ◌<◌, ◌∷◌, ◌≡◌}
 use Rattle.std.specs.Prelude.{if◌then◌else◌, nat_lt, ⊤, ◌-◌, ◌==◌}
 use Rattle.std.proofs.lemmas.Bool.{eqb-false}

@@ -1,4 +1,4 @@
--- Clips of lists of row versions by ranges of keys, and maps that keep the versions' names.
+-- Keys below bounds, and in what two ranges have in common.
 use Rattle.std.proofs.Common.{Equal, Greater, Less, List, Ordering, ap, false, refl, sym, true, ℕ, ◌∙◌, ◌≡◌}
 use Rattle.std.specs.Prelude.{Bool, None, Option, Some, cond, not, ◌&&◌, ◌||◌}
 use Rattle.std.specs.Ordering.{is_lt, ordering_reverse}
@@ -8,7 +8,7 @@ use Rattle.std.proofs.lemmas.Map.Lookups.{exact_bytes}
 use Rattle.lt_terms.specs.Key.{Range, below, bytes_cmp, common, in_range, is_below_high, lesser_high}
 use Rattle.lt_lemmas.proofs.MergeLaws.{less}
 
--- ---- clips of clips
+-- ---- tests
 
 pub and-swap : (a b : Bool) → (a && b) ≡ (b && a)
 and-swap true true = refl
@@ -16,7 +16,7 @@ and-swap true false = refl
 and-swap false true = refl
 and-swap false false = refl
 
--- ---- adjoining ranges
+-- ---- keys below bounds
 
 pub key-less : (a b : List ℕ) → below a b ≡ true → bytes_cmp a b ≡ Less
 key-less a b h = less (bytes_cmp a b) h

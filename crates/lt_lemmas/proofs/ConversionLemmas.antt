@@ -1,4 +1,4 @@
--- Conversion by way of a carrier, and of values that are of a kind already.
+-- A number's text reads back, and no other text reads as the number; conversion of null; kinds whose field numbers rise.
 use Rattle.std.proofs.Common.{List, [], ap, arith, false, le-leb, leb-true, lt-ltb, ltb-true, ne_eqb, negsuc, pos, refl, suc, sym, true, ℕ, ℤ, ◌*◌, ◌++◌, ◌+◌, ◌-◌, ◌<◌, ◌^◌, ◌∙◌, ◌∷◌, ◌≡◌, ◌≤◌}
 use Rattle.std.proofs.lemmas.Bool.{and_from, and_parts, eq-eqb, eqb-true}
 use Rattle.std.specs.Prelude.{Bool, IsTrue, None, Some, cond, int_le, nat_lt, ◌%◌, ◌&&◌, ◌/◌, ◌==◌}
@@ -87,9 +87,8 @@ pub fits_wider : (z : ℤ) → IsTrue (fits_32 z) → IsTrue (fits_64 z)
 fits_wider (pos n) h = lt-ltb n (2 ^ 63) (omega (arith, ltb-true n (2 ^ 31) h))
 fits_wider (negsuc n) h = and_from _ true (le-leb n (2 ^ 63 - 1) (omega (arith, leb-true n (2 ^ 31 - 1) (and_parts (int_le (negsuc (2 ^ 31 - 1)) (negsuc n)) true h).0))) refl
 
--- ---- a value of a kind's shape is, at that kind, itself
+-- ---- kinds in which the field numbers of each struct rise
 
--- the field numbers of each struct rise
 abbrev mutual
   pub is_rising : Kind → Bool
   is_rising (plain r) = true

@@ -1,4 +1,4 @@
--- A stream has one front; what was the front is a front of the front of a longer feed, under a catalogue that grew.
+-- A longer feed keeps each stream's bytes, headers and successors.
 use Rattle.std.proofs.Common.{List, [], ap, append-nil, append_assoc, refl, suc, sym, zero, ℕ, ◌++◌, ◌+◌, ◌∙◌, ◌∷◌, ◌≡◌}
 use Rattle.std.specs.Prelude.{◌≢◌}
 use Rattle.std.proofs.lemmas.Bool.{false≢true}

@@ -1,4 +1,4 @@
--- The order of row versions, and what the merge of ordered lists is.
+-- The order of row versions: a list that is in order stays so where one is put in, filtered or clipped.
 use Rattle.std.proofs.Common.{Equal, Greater, Less, List, Ordering, [], ap, arith, eqb-true, false, refl, sym, true, ℕ, ◌∙◌, ◌∷◌, ◌≡◌}
 use Rattle.std.specs.Ordering.{is_eq, is_lt, nat_cmp, ordering_reverse, ordering_then}
 use Rattle.std.specs.Cmp.{IsTotalOrder}

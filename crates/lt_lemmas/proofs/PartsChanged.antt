@@ -1,4 +1,4 @@
--- Partitions of which one is changed in place: their ranges, and what holds of each.
+-- A list of which one element is changed in its place.
 use Rattle.std.proofs.Common.{List, [], ap, length, refl, suc, zero, ℕ, ◌∷◌, ◌≡◌}
 use Rattle.std.specs.Prelude.{Some, slice_get}
 use Rattle.lt_tables.specs.Schema.{change_at}

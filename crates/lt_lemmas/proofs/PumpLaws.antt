@@ -1,4 +1,4 @@
--- A pump keeps a good session: its stream stands behind what it took, and what it took is pending where it is not durable.
+-- Names of changes in the order of their row versions.
 use Rattle.std.proofs.Common.{Bool, List, [], ap, refl, ℕ, ◌∷◌, ◌≡◌}
 use Rattle.std.specs.Prelude.{map, ◌&&◌}
 use Rattle.lt_tables.specs.Version.{RowVersion, is_ordered, stands_before}

@@ -1,4 +1,4 @@
--- Ranges that tile the keys: a key lies in one of them, so in a feed its changes stand in one stream, in order of time.
+-- Ranges with rising bounds: a key lies in one of them at most.
 use Rattle.std.proofs.Common.{Bool, List, [], ap, false, length, refl, true, ℕ, ◌∙◌, ◌∷◌, ◌≡◌}
 use Rattle.std.specs.List.{AllByRecursion}
 use Rattle.std.specs.Prelude.{IsTrue, Some, not, ⊤, ◌&&◌, ◌==◌}

@@ -1,4 +1,4 @@
--- A snapshot goes by the rows alone: where two lists of changes make the same rows, they make the same snapshots and answers.
+-- The keys of a table that a list of changes has, by rising key, and what is given for each of them.
 use Rattle.std.proofs.Common.{Bool, List, [], ap, ap₂, cond, eq-eqb, eqb-true, false, inl, inr, refl, subst, sym, true, ℕ, ◌++◌, ◌<◌, ◌∙◌, ◌∷◌, ◌≡◌}
 use Rattle.std.specs.List.{AllByRecursion, cons_option}
 use Rattle.std.specs.Prelude.{IsTrue, None, Option, filter, filter_map, fold, if◌then◌else◌, nat_le, option_map, ⊤, ◌==◌, ◌^◌, ◌||◌, ◌⊎◌}

@@ -1,4 +1,4 @@
--- Laws of soundness: an opening finds a good state, a longer feed keeps it, and changes no row up to a safe moment.
+-- Ranges that have a key in common meet.
 use Rattle.std.proofs.Common.{Bool, List, false, refl, subst, sym, true, ℕ, ◌∙◌, ◌≡◌}
 use Rattle.std.specs.Prelude.{None, Option, Some, not, ◌&&◌}
 use Rattle.std.proofs.lemmas.Bool.{and_from}
@@ -37,7 +37,7 @@ meets-by k r s a b =
     twice (is_below_high (common r s).low (common r s).high) (low-high k (common r s).low (common r s).high (same_key k (common r s).low) refl
     (not-true (below k (common r s).low) (left (not (below k (common r s).low)) _ e)) (right (not (below k (common r s).low)) _ e))
 
--- ---- a longer feed changes no row up to a safe moment
+-- ---- the two cases of a test
 
 pub pick : {X : Type 0} (b : Bool) → (b ≡ true → X) → (b ≡ false → X) → X
 pick true f g = f refl

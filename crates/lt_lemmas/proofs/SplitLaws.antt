@@ -1,4 +1,4 @@
--- A split keeps a good session: what holds of a partition holds of each range within its own.
+-- Ranges that meet have a key in common; bounds that rise.
 use Rattle.std.proofs.Common.{Bool, List, [], ap, false, refl, subst, sym, true, ℕ, ◌∙◌, ◌∷◌, ◌≡◌}
 use Rattle.std.specs.Ordering.{is_eq, is_lt}
 use Rattle.std.specs.declared.cmp.Ordering.{Ordering}
@@ -10,7 +10,7 @@ use Rattle.lt_lemmas.proofs.PointLaws.{above, below_trans, itself, same}
 use Rattle.lt_lemmas.proofs.SoundLaws.{pick}
 use Rattle.lt_lemmas.proofs.ClipLaws.{in-common}
 
--- ---- a range within another
+-- ---- keys and ranges
 
 equal_not_less : (o : Ordering) → is_eq o ≡ true → is_lt o ≡ false
 equal_not_less Less h = cc
@@ -42,7 +42,7 @@ meets_some x q h =
     let p = and_parts (in_range k x) (in_range k q) (sym (in-common k x q) ∙ i) in
     (k, p.0, p.1)
 
--- ---- the manifest
+-- ---- bounds that rise
 
 pub rise_first : (a b : List ℕ) (xs : List (List ℕ)) → IsTrue (rise (a ∷ xs)) → first_bound xs ≡ Some b → below a b ≡ true
 rise_first a b [] h e = cc

@@ -1,4 +1,4 @@
--- The kinds of carriers are those that a store's layouts have: no enum is left in them, and their field numbers are numbers that rise.
+-- In the kinds of a version without faults field numbers are numbers, and rise.
 use Rattle.std.proofs.Common.{Bool, refl, true, ℕ, ◌≡◌}
 use Rattle.std.specs.Prelude.{IsTrue, None, nat_lt, ◌&&◌}
 use Rattle.std.proofs.lemmas.Bool.{and_from, not-false}

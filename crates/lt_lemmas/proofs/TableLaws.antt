@@ -1,4 +1,4 @@
--- A lawful catalogue can be spelled: its numbers, names and counts fit their bytes.
+-- What the tests of versions give for each table of a lawful catalogue: numbers that rise, kinds that nest at most 4 deep and do not clash.
 use Rattle.std.proofs.Common.{Bool, List, [], ap, append-nil, cond, eqb-true, false, length, ltb-false, refl, subst, suc, sym, true, zero, ℕ, ◌++◌, ◌+◌, ◌∷◌, ◌≡◌, ◌≤◌}
 use Rattle.std.specs.Prelude.{IsTrue, None, Option, Some, map, nat_lt, not, option_map, pos, ⊤, ◌&&◌, ◌-◌, ◌==◌}
 use Rattle.std.specs.List.{AllByRecursion, cons_option, list_any}

@@ -1,4 +1,4 @@
--- What a pump takes: the changes of fair items are keyed, items that were taken are a front of the stream's front, and they compose.
+-- What a pump takes: key parts of a lawful change, items that are taken after others, and items of a longer feed.
 use Rattle.std.proofs.Common.{Bool, List, [], ap, append-nil, append_assoc, arith, drop, false, length, ltb-true, refl, subst, sym, true, ℕ, ◌++◌, ◌+◌, ◌<◌, ◌∙◌, ◌∷◌, ◌≡◌, ◌≤◌}
 use Rattle.std.specs.Prelude.{IsTrue, None, Option, Some, flat_map, fold, nat_lt, ◌&&◌, ◌-◌, ◌^◌, ◌||◌}
 use Rattle.std.specs.Option.{option_map_or}

@@ -1,12 +1,10 @@
--- Kinds that grew: what was set under the narrower carrier is, leaf by leaf, what it would be under the wider one.
+-- Null is null at each kind.
 use Rattle.std.proofs.Common.{refl, ◌≡◌}
 use Rattle.lt_terms.specs.Value.{null_value}
 use Rattle.lt_terms.specs.Kind.{Kind, enumeration, plain, structured}
 use Rattle.lt_terms.specs.Conversion.{conv}
 use Rattle.lt_lemmas.proofs.ConversionLemmas.{at_rank-null}
 use Rattle.lt_terms.specs.declared.Rank.TheVariants as rank
-
--- ---- a value along a path, converted
 
 pub conv_null : (k : Kind) → conv null_value k ≡ null_value
 conv_null (plain r) = at_rank-null r

@@ -1,7 +1,7 @@
 //! The first root. Making it takes four calls of the disk.
 
 ghost use Rattle.std.specs.Prelude.{◌≡◌, ◌++◌, ◌<◌, ◌≤◌, IfOk, IfSome, OnOk, Some};
-ghost use Rattle.lt_world.specs.Disk.{HasCause, LeftOnly, with_bytes, zeros};
+ghost use Rattle.lt_world.specs.Disk.{DiskGoes, HasCause, LeftOnly, with_bytes, zeros};
 ghost use Rattle.lt_world.specs.Slots.{HasRoot};
 ghost use Rattle.lt_world.specs.Disk.{LeavesNow};
 ghost use Rattle.lt_disk.specs.Within.{IsStable, IsWithin, ReadsWithin};
@@ -25,6 +25,7 @@ pub fn format<D: Disk>(disk: &mut D, place: u64, length: u64) -> Result<Root, Di
     ensures images { LeftOnly (D.state disk.old) (D.state disk.new) (IsWithin (D.state disk.old) 0 1024) }
     ensures stable { OnOk result (IsStable (D.state disk.new)) }
 
+    ensures goes { DiskGoes (D.state disk.old) (D.state disk.new) }
     ensures cause { HasCause (D.state disk.old).faults (D.state disk.new).faults result }
     ensures written { HasCause (D.state disk.old).write_faults (D.state disk.new).write_faults result }
     ensures read { (D.state disk.new).reads ≡ (D.state disk.old).reads }

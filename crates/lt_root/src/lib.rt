@@ -12,8 +12,8 @@ mod refusal;
 mod slot;
 mod writing;
 
-pub use committing::commit;
+pub use committing::{commit, try_commit};
 pub use formatting::format;
 pub use loading::load;
 pub use lt_terms::Root;
-pub use refusal::RootRefusal;
+pub use refusal::{CommitFault, RootRefusal};

@@ -1,7 +1,7 @@
 //! Which root counts, read in one call of the disk.
 
 ghost use Rattle.std.specs.Prelude.{◌≡◌, ◌<◌, ◌≤◌, IsTrue, List, Ok, ℕ, IfOk, IfErr, IfSome, length};
-ghost use Rattle.lt_world.specs.Disk.{CountsOne, HasCause, LeftOnly};
+ghost use Rattle.lt_world.specs.Disk.{CountsOne, DiskGoes, HasCause, LeftOnly};
 ghost use Rattle.lt_world.specs.Object.{StaysTold};
 ghost use Rattle.lt_world.specs.Slots.{CountsAsRoot, is_root};
 ghost use Rattle.lt_root.specs.Roots.{AreSlots, RefusesRoot, of_disk};
@@ -18,6 +18,7 @@ pub fn load<D: Disk>(disk: &mut D) -> Result<Root, RootRefusal>
     ensures ok { IfOk result (λ r. IfSome (D.state disk.old).told (λ image. CountsAsRoot image r)) }
     ensures refused { IfErr result (λ e. IfSome (D.state disk.old).told (λ image. RefusesRoot image e)) }
     ensures lawful { IfOk result (λ r. IsTrue (is_root r.generation r.place r.length) × (r.slot < 2)) }
+    ensures goes { DiskGoes (D.state disk.old) (D.state disk.new) }
     ensures cause { HasCause (D.state disk.old).faults (D.state disk.new).faults (of_disk result) }
     ensures same { (D.state disk.new).told ≡ (D.state disk.old).told }
     ensures images { LeftOnly (D.state disk.old) (D.state disk.new) (D.state disk.old).leaves }

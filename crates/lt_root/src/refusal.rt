@@ -1,6 +1,7 @@
-//! Why no root is loaded.
+//! Why no root is loaded, and how a commit fails.
 
 ghost use Rattle.std.specs.Prelude.{◌≡◌};
+ghost use Rattle.lt_root.specs.declared.refusal.CommitFault.TheVariants as faults;
 ghost use Rattle.lt_root.specs.declared.refusal.RootRefusal.TheVariants as refusals;
 
 use lt_disk::DiskFault;
@@ -24,5 +25,22 @@ impl From<DiskFault> for RootRefusal {
 
     fn from(_: DiskFault) -> Self {
         RootRefusal::Disk
+    }
+}
+
+/// The disk failed in a commit. Only where it failed in the one read, no image has the next root.
+#[derive(Clone, Copy, Debug, Drop, PartialEq, Eq, Error)]
+pub enum CommitFault {
+    #[error("the disk has failed in a read")]
+    Read,
+    #[error("the disk has failed in a write or a sync")]
+    Write,
+}
+
+impl From<DiskFault> for CommitFault {
+    ghost from_gives = { λ _ e. e ≡ faults.Write };
+
+    fn from(_: DiskFault) -> Self {
+        CommitFault::Write
     }
 }

@@ -9,8 +9,6 @@ mod jobs;
 mod line;
 mod literals;
 mod queries;
-#[cfg(test)]
-mod tests;
 mod words;
 
 pub use line::{Line, MAX_LINE, read_line};

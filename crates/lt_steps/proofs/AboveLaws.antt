@@ -17,12 +17,12 @@ use Rattle.lt_tables.specs.Query.{Command, do_compact, do_deltas, do_flush, do_j
 use Rattle.lt_machine.specs.Sound.{PendingOfAll, passed}
 use Rattle.lt_tables.specs.Pump.{Part}
 use Rattle.lt_storage.specs.Store.{Durable, part_ranges}
-use Rattle.lt_laws.proofs.SplitLaws.{first_stays}
-use Rattle.lt_laws.proofs.CompactedShelf.{lows_replaced}
+use Rattle.lt_session_laws.proofs.SplitLaws.{first_stays}
+use Rattle.lt_session_laws.proofs.CompactedShelf.{lows_replaced}
 use Rattle.lt_codecs.proofs.ListFacts.{all_map}
 use Rattle.lt_lemmas.proofs.ListFacts.{all_contained}
 use Rattle.lt_laws.proofs.ListFacts.{in_map}
-use Rattle.lt_laws.proofs.PartsChanged.{ranges_changed}
+use Rattle.lt_session_laws.proofs.PartsChanged.{ranges_changed}
 use Rattle.lt_lemmas.proofs.PointLaws.{same}
 use Rattle.lt_laws.proofs.SoundLaws.{filter-all}
 use Rattle.lt_pump.specs.Given.{all_given, given}

@@ -11,8 +11,8 @@ use Rattle.lt_words.specs.Reply.{Refusal}
 use Rattle.lt_machine.specs.Run.{AfterFault, TakesSome}
 use Rattle.lt_tables.specs.Query.{Command, do_compact, do_deltas, do_flush, do_job_begin, do_job_drop, do_job_finish, do_job_step, do_page, do_pump, do_reopen, do_retain, do_retire, do_scan, do_schema, do_split, do_status}
 use Rattle.lt_machine.specs.Sound.{FailedIsSound, IsGood, source_of}
-use Rattle.lt_laws.proofs.AllSteps.{step_keeps}
-use Rattle.lt_laws.proofs.FaultLaws.{fault_keeps}
+use Rattle.lt_session_laws.proofs.AllSteps.{step_keeps}
+use Rattle.lt_session_laws.proofs.FaultLaws.{fault_keeps}
 use Rattle.lt_pump.specs.Given.{all_given}
 use Rattle.lt_steps.proofs.SplitMemory.{memory_splits}
 use Rattle.lt_steps.specs.Memory.{partitions, split_memory}

@@ -14,16 +14,16 @@ use Rattle.lt_tables.specs.Query.{Command, do_compact, do_deltas, do_flush, do_j
 use Rattle.lt_machine.specs.Sound.{HasPart}
 use Rattle.lt_tables.specs.Pump.{Part}
 use Rattle.lt_storage.specs.Store.{Durable, part_ranges}
-use Rattle.lt_laws.proofs.CompactLaws.{no_job}
+use Rattle.lt_session_laws.proofs.CompactLaws.{no_job}
 use Rattle.lt_lemmas.proofs.ClipLaws.{in-common}
 use Rattle.lt_codecs.proofs.ListFacts.{all_map}
-use Rattle.lt_laws.proofs.PartsChanged.{ranges_changed}
+use Rattle.lt_session_laws.proofs.PartsChanged.{ranges_changed}
 use Rattle.lt_lemmas.proofs.PointLaws.{below_trans}
 use Rattle.lt_laws.proofs.ReadLaws.{or_left, or_right}
 use Rattle.lt_lemmas.proofs.SoundLaws.{pick}
 use Rattle.lt_lemmas.proofs.SplitLaws.{meets_some}
-use Rattle.lt_laws.proofs.SplitLaws.{first_stays}
-use Rattle.lt_laws.proofs.StepLaws.{unrefused}
+use Rattle.lt_session_laws.proofs.SplitLaws.{first_stays}
+use Rattle.lt_session_laws.proofs.StepLaws.{unrefused}
 use Rattle.lt_steps.proofs.CommitLaws.{has_part}
 use Rattle.lt_steps.proofs.JobKept.{same_job}
 use Rattle.lt_steps.proofs.SplitParts.{id_low, lower, not_false, range_before, split_at, upper}

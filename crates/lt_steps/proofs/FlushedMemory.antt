@@ -14,11 +14,11 @@ use Rattle.lt_tables.specs.Schema.{Catalogue, change_at, when}
 use Rattle.lt_tables.specs.Query.{do_flush}
 use Rattle.lt_machine.specs.Sound.{source_of}
 use Rattle.lt_tables.specs.Version.{RowVersion}
-use Rattle.lt_laws.proofs.MemoryLaws.{memory_seen}
+use Rattle.lt_laws.proofs.MemorySeen.{memory_seen}
 use Rattle.lt_laws.proofs.DurableFacts.{got_is_held}
-use Rattle.lt_laws.proofs.FlushLaws.{flush_keeps}
+use Rattle.lt_session_laws.proofs.FlushLaws.{flush_keeps}
 use Rattle.lt_laws.proofs.ListFacts.{all_at}
-use Rattle.lt_laws.proofs.PartsChanged.{all_changed}
+use Rattle.lt_session_laws.proofs.PartsChanged.{all_changed}
 use Rattle.lt_laws.proofs.RangeLaws.{source_in_time}
 use Rattle.lt_steps.proofs.BelongsLaws.{AreHeld, belongs_as, names_in}
 use Rattle.lt_steps.proofs.KeptMemory.{with_delta_catalogue}

@@ -15,10 +15,10 @@ use Rattle.lt_tables.specs.Query.{Command, do_compact, do_deltas, do_flush, do_j
 use Rattle.lt_machine.specs.Sound.{FailedIsSound, IsGood, IsSound, IsSoundFor, LeavesPart, Session, source_of}
 use Rattle.lt_world.specs.Extents.{end_of}
 use Rattle.lt_storage.specs.Store.{Durable, HasPlaced, Holds, Placing, are_within, extents_of}
-use Rattle.lt_laws.proofs.AllSteps.{step_keeps}
+use Rattle.lt_session_laws.proofs.AllSteps.{step_keeps}
 use Rattle.lt_laws.proofs.FrontStands.{sound_grows}
 use Rattle.lt_steps.proofs.JobKept.{job_stays}
-use Rattle.lt_laws.proofs.FaultLaws.{disk_unrefused}
+use Rattle.lt_session_laws.proofs.FaultLaws.{disk_unrefused}
 use Rattle.lt_steps.proofs.RisingLaws.{unbroken}
 use Rattle.lt_steps.proofs.TookLaws.{took_some}
 use Rattle.lt_steps.specs.Images.{HasEither, ImagesStay, StandsWhole}

@@ -12,7 +12,7 @@ use Rattle.lt_machine.specs.Outside.{AreMade, bundles_made, bytes_of_bundle, job
 use Rattle.lt_tables.specs.Query.{Command, do_compact, do_deltas, do_flush, do_job_begin, do_job_drop, do_job_finish, do_job_step, do_page, do_pump, do_reopen, do_retain, do_retire, do_scan, do_schema, do_split, do_status}
 use Rattle.lt_storage.specs.Store.{Delta}
 use Rattle.lt_tables.specs.Version.{RowVersion}
-use Rattle.lt_laws.proofs.JobLaws.{part_job_is}
+use Rattle.lt_session_laws.proofs.JobLaws.{part_job_is}
 use Rattle.lt_steps.proofs.JobKept.{made_faults, made_stays, same_job}
 use Rattle.lt_steps.proofs.JobMade.{job_makes}
 use Rattle.lt_steps.specs.Jobs.{JobMadeExactly, MadeExtents, keeps_job}

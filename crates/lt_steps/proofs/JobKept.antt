@@ -19,9 +19,9 @@ use Rattle.lt_machine.specs.Sound.{IsGood, Session, JobBegan, JobStands, source_
 use Rattle.lt_world.specs.Extents.{apart, are_apart}
 use Rattle.lt_storage.specs.Store.{Delta, Durable, Placing, carried_versions, delta_with, deltas_of, extents_of}
 use Rattle.lt_tables.specs.Version.{RowVersion, clip, merge}
-use Rattle.lt_laws.proofs.CompactLaws.{no_job}
+use Rattle.lt_session_laws.proofs.CompactLaws.{no_job}
 use Rattle.lt_laws.proofs.ShelfGrowth.{named_stay}
-use Rattle.lt_laws.proofs.StepLaws.{unrefused}
+use Rattle.lt_session_laws.proofs.StepLaws.{unrefused}
 use Rattle.lt_steps.proofs.TookLaws.{took_some}
 use Rattle.lt_steps.specs.Jobs.{JobStays, MadeExtents, StaysOpen, keeps_job}
 

@@ -10,7 +10,7 @@ use Rattle.lt_terms.specs.Key.{below, same_key}
 use Rattle.lt_terms.specs.Layout.{Leaf}
 use Rattle.lt_tables.specs.Version.{RowVersion, collapse, compose, is_insert, is_ordered, onto, rolled_up, stands_before}
 use Rattle.lt_laws.proofs.ListLaws.{grouped-flat}
-use Rattle.lt_laws.proofs.JobOutput.{composed_key}
+use Rattle.lt_session_laws.proofs.JobOutput.{composed_key}
 use Rattle.lt_lemmas.proofs.SnapshotLaws.{apart}
 use Rattle.lt_lemmas.proofs.ClipLaws.{key-trans}
 use Rattle.lt_codecs.proofs.ListFacts.{all_map}

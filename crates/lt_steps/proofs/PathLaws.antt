@@ -11,11 +11,11 @@ use Rattle.lt_tables.specs.Query.{Command}
 use Rattle.lt_words.specs.Script.{Line, bad_line, skipped, spells_command}
 use Rattle.lt_machine.specs.Sound.{FailedIsLater, FailedIsSound, IsGood, Session, source_of}
 use Rattle.lt_terms.specs.Value.{Value}
-use Rattle.lt_laws.proofs.AllSteps.{step_keeps}
-use Rattle.lt_laws.proofs.FaultLaws.{fault_keeps}
+use Rattle.lt_session_laws.proofs.AllSteps.{step_keeps}
+use Rattle.lt_session_laws.proofs.FaultLaws.{fault_keeps}
 use Rattle.lt_lemmas.proofs.FrontLaws.{grows_itself}
 use Rattle.lt_laws.proofs.FrontStands.{fronts_grow}
-use Rattle.lt_laws.proofs.GrowthLaws.{growth_keeps}
+use Rattle.lt_session_laws.proofs.GrowthLaws.{growth_keeps}
 use Rattle.lt_steps.proofs.RisingLaws.{nothing_falls}
 use Rattle.lt_steps.specs.Rising.{AnswersKeep, KeepsFor, MinimumRises, Moved, Moves, Path, PathKeeps, RunsKeep, last_feed, last_state, reopens}
 

@@ -20,15 +20,15 @@ use Rattle.lt_machine.specs.Sound.{AreAtPlaces, FrontsFrom, PendingOfAll, Stands
 use Rattle.lt_tables.specs.Pump.{Part}
 use Rattle.lt_storage.specs.Store.{Durable}
 use Rattle.lt_codecs.proofs.ListFacts.{all_append, all_front, all_map, all_rest}
-use Rattle.lt_laws.proofs.FlushLaws.{passed_from}
+use Rattle.lt_session_laws.proofs.FlushLaws.{passed_from}
 use Rattle.lt_laws.proofs.HeldLaws.{rises_tail}
 use Rattle.lt_lemmas.proofs.ListFacts.{all_contained}
 use Rattle.lt_laws.proofs.ListFacts.{all_at, contains_front, contains_rest}
 use Rattle.lt_lemmas.proofs.PointLaws.{changes_of-append, itself, same}
-use Rattle.lt_laws.proofs.PumpLaws.{pumped}
+use Rattle.lt_session_laws.proofs.PumpLaws.{pumped}
 use Rattle.lt_laws.proofs.RangeLaws.{source_in_time}
 use Rattle.lt_laws.proofs.SoundLaws.{before-take}
-use Rattle.lt_laws.proofs.StopLaws.{pump_laws}
+use Rattle.lt_session_laws.proofs.StopLaws.{pump_laws}
 use Rattle.lt_pump.specs.Given.{all_given, given}
 use Rattle.lt_pump.specs.Positions.{IsOther}
 use Rattle.lt_pump.proofs.GivenLaws.{all_put}

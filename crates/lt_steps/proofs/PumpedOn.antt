@@ -15,7 +15,7 @@ use Rattle.lt_words.specs.Reply.{Refusal}
 use Rattle.lt_tables.specs.Schema.{Catalogue}
 use Rattle.lt_tables.specs.Query.{do_pump}
 use Rattle.lt_machine.specs.Sound.{AreAtPlaces, FrontsFrom, IsGood, source_of}
-use Rattle.lt_laws.proofs.PumpLaws.{none_enter}
+use Rattle.lt_session_laws.proofs.PumpLaws.{none_enter}
 use Rattle.lt_codecs.proofs.ListFacts.{all_map}
 use Rattle.lt_lemmas.proofs.ListFacts.{all_contained, all_from, find_all}
 use Rattle.lt_laws.proofs.ListFacts.{all_at}

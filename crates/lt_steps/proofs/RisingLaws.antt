@@ -15,21 +15,21 @@ use Rattle.lt_tables.specs.Query.{Command, do_compact, do_deltas, do_flush, do_j
 use Rattle.lt_machine.specs.Sound.{IsGood, source_of}
 use Rattle.lt_tables.specs.Pump.{Part}
 use Rattle.lt_storage.specs.Store.{Durable, IsLawfulPart, part_ranges}
-use Rattle.lt_laws.proofs.CompactedShelf.{lows_replaced}
-use Rattle.lt_laws.proofs.FaultLaws.{fault_keeps}
-use Rattle.lt_laws.proofs.NeverFalls.{minimum_never_falls}
-use Rattle.lt_laws.proofs.PartsChanged.{ranges_changed}
+use Rattle.lt_session_laws.proofs.CompactedShelf.{lows_replaced}
+use Rattle.lt_session_laws.proofs.FaultLaws.{fault_keeps}
+use Rattle.lt_session_laws.proofs.NeverFalls.{minimum_never_falls}
+use Rattle.lt_session_laws.proofs.PartsChanged.{ranges_changed}
 use Rattle.lt_lemmas.proofs.ListFacts.{when_none}
-use Rattle.lt_laws.proofs.PumpLaws.{pump_keeps}
-use Rattle.lt_laws.proofs.JobLaws.{as_many}
+use Rattle.lt_session_laws.proofs.PumpLaws.{pump_keeps}
+use Rattle.lt_session_laws.proofs.JobLaws.{as_many}
 use Rattle.lt_lemmas.proofs.RangeLaws.{IsOutOf, IsSole, tile_sole}
 use Rattle.lt_laws.proofs.ReadLaws.{or_left, or_right}
 use Rattle.lt_laws.proofs.ScanLaws.{tiles_of}
 use Rattle.lt_lemmas.proofs.SoundLaws.{meets-by, pick}
 use Rattle.lt_laws.proofs.SoundLaws.{at-least, none-mapped, not-found}
 use Rattle.lt_lemmas.proofs.SplitLaws.{meets_some}
-use Rattle.lt_laws.proofs.SplitLaws.{Each, first_stays, lows_of}
-use Rattle.lt_laws.proofs.StepLaws.{headers_are, refusals}
+use Rattle.lt_session_laws.proofs.SplitLaws.{Each, first_stays, lows_of}
+use Rattle.lt_session_laws.proofs.StepLaws.{headers_are, refusals}
 use Rattle.lt_lemmas.proofs.ListFacts.{all_none}
 use Rattle.lt_steps.proofs.BelongsLaws.{same_fronts}
 use Rattle.lt_steps.proofs.PumpedOn.{took}

@@ -16,7 +16,7 @@ use Rattle.lt_machine.specs.Sound.{IsGood, source_of}
 use Rattle.lt_codecs.proofs.LogLaws.{frames_prefix_free}
 use Rattle.lt_laws.proofs.FrontLaws.{fronts_unique}
 use Rattle.lt_lemmas.proofs.ListFacts.{all_filter}
-use Rattle.lt_laws.proofs.SplitLaws.{split_keeps}
+use Rattle.lt_session_laws.proofs.SplitLaws.{split_keeps}
 use Rattle.lt_steps.specs.Memory.{MemorySplits, split_memory}
 
 -- ---- names and what is true of each change

@@ -8,7 +8,7 @@ use Rattle.lt_tables.specs.Pump.{Part}
 use Rattle.lt_storage.specs.Store.{part_ranges}
 use Rattle.lt_lemmas.proofs.PointLaws.{below_trans}
 use Rattle.lt_lemmas.proofs.SplitLaws.{not_below_trans}
-use Rattle.lt_laws.proofs.SplitLaws.{lows_of}
+use Rattle.lt_session_laws.proofs.SplitLaws.{lows_of}
 
 -- ---- a split
 

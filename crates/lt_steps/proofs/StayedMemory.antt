@@ -18,12 +18,12 @@ use Rattle.lt_codecs.proofs.ListFacts.{all_map}
 use Rattle.lt_lemmas.proofs.ListFacts.{when_none}
 use Rattle.lt_codecs.proofs.LogLaws.{frames_prefix_free}
 use Rattle.lt_laws.proofs.AnswerLaws.{named_is_numbered}
-use Rattle.lt_laws.proofs.CatalogueSteps.{retire_keeps, schema_keeps}
+use Rattle.lt_session_laws.proofs.CatalogueSteps.{retire_keeps, schema_keeps}
 use Rattle.lt_lemmas.proofs.FrontLaws.{grows_itself}
 use Rattle.lt_laws.proofs.FrontLaws.{fronts_stay}
 use Rattle.lt_laws.proofs.ListFacts.{all_at}
 use Rattle.lt_laws.proofs.SoundLaws.{longer-by, source-more}
-use Rattle.lt_laws.proofs.StepLaws.{unrefused}
+use Rattle.lt_session_laws.proofs.StepLaws.{unrefused}
 use Rattle.lt_steps.specs.Memory.{MemoryStays}
 
 -- ---- what the catalogue becomes

@@ -19,7 +19,7 @@ use Rattle.lt_machine.specs.Sound.{FailedIsLater, FailedIsSound, IsSound, Leaves
 use Rattle.lt_machine.specs.Step.{Serves}
 use Rattle.lt_world.specs.Extents.{apart, are_apart}
 use Rattle.lt_storage.specs.Store.{Durable, Holds, Placing, extents_of}
-use Rattle.lt_laws.proofs.NeverFalls.{minimum_never_falls}
+use Rattle.lt_session_laws.proofs.NeverFalls.{minimum_never_falls}
 use Rattle.lt_steps.proofs.AboveLaws.{memory_is_above}
 use Rattle.lt_steps.proofs.AllMemory.{memory_faults, memory_steps}
 use Rattle.lt_steps.proofs.CoverLaws.{cover_laws}

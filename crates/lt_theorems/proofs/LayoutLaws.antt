@@ -9,7 +9,7 @@ use Rattle.lt_storage.specs.Store.{AreLawfulTables, Delta, IsLayout, carried_ver
 use Rattle.lt_machine.specs.Laws.{StandsBetween}
 use Rattle.lt_lemmas.proofs.ListFacts.{all_from, find_held}
 use Rattle.lt_laws.proofs.CoerceLaws.{IsServed, coerce_twice}
-use Rattle.lt_laws.proofs.JobOutput.{layout_columns}
+use Rattle.lt_laws.proofs.TableGrowth.{layout_columns}
 use Rattle.lt_laws.proofs.LeafLaws.{AreColumns, IsMarked, all_marked, leaf_found, leaf_in, leaf_is}
 use Rattle.lt_laws.proofs.ListFacts.{all_at}
 use Rattle.lt_laws.proofs.WidenedStore.{delta_goes, in_layout, lawful_fit}

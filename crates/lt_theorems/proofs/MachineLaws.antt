@@ -4,14 +4,14 @@ use Rattle.lt_lemmas.proofs.PointLaws.{point_suffices}
 use Rattle.lt_lemmas.proofs.RowLemmas.{reads_in_order}
 use Rattle.lt_laws.proofs.SnapshotLaws.{answer_by_rows, snapshot_by_rows}
 use Rattle.lt_laws.proofs.TakenLaws.{row_in_order, safe_row, safe_snapshot, source_keyed}
-use Rattle.lt_laws.proofs.AllSteps.{step_keeps}
+use Rattle.lt_session_laws.proofs.AllSteps.{step_keeps}
 use Rattle.lt_laws.proofs.AnswerLaws.{scan_is_snapshot}
-use Rattle.lt_laws.proofs.FaultLaws.{fault_keeps}
+use Rattle.lt_session_laws.proofs.FaultLaws.{fault_keeps}
 use Rattle.lt_laws.proofs.FrontStands.{front_laws, sound_grows}
-use Rattle.lt_laws.proofs.GrowthLaws.{growth_keeps}
-use Rattle.lt_laws.proofs.MemoryLaws.{held_scans}
+use Rattle.lt_session_laws.proofs.GrowthLaws.{growth_keeps}
+use Rattle.lt_session_laws.proofs.MemoryLaws.{held_scans}
 use Rattle.lt_laws.proofs.SoundLaws.{opening_is_good}
-use Rattle.lt_laws.proofs.StopLaws.{pump_laws}
+use Rattle.lt_session_laws.proofs.StopLaws.{pump_laws}
 use Rattle.lt_theorems.proofs.ReadGrowth.{reads_wider}
 
 pub snapshot_laws : SnapshotLaws

@@ -23,7 +23,7 @@ use Rattle.lt_machine.specs.Laws.{SessionIsReached, goes, stays}
 use Rattle.lt_examples.specs.Examples.{head, inserted, one_table}
 use Rattle.lt_laws.proofs.FrontStands.{one_stream}
 use Rattle.lt_laws.proofs.SoundLaws.{opening_is_good}
-use Rattle.lt_laws.proofs.AllSteps.{step_keeps}
+use Rattle.lt_session_laws.proofs.AllSteps.{step_keeps}
 
 computes : Unit {0}
 unfolding serde_json_on_literals version_of_text is_utf8 chars encode digits at_rank number_of_text carrier carrier_layout schema_fault spelled breaks breaks_at point_of unflatten cell_to coerce seen merge manifest_bytes refused

@@ -11,17 +11,15 @@ use Rattle.lt_tables.specs.Schema.{Catalogue, IsCatalogue, carriers}
 use Rattle.lt_storage.specs.Store.{IsLawfulTable, TableDelta}
 use Rattle.lt_tables.specs.Version.{AreVersions, RowVersion, coerce_all, coerced, is_version, seen}
 use Rattle.lt_laws.proofs.SeenLaws.{to_own}
-use Rattle.lt_laws.proofs.CatalogueSteps.{coerce_length}
+use Rattle.lt_laws.proofs.CoerceLaws.{IsServed, coerce_length, suits_rank}
 use Rattle.lt_laws.proofs.ClipLaws.{coerce-ordered}
-use Rattle.lt_laws.proofs.CoerceLaws.{IsServed, suits_rank}
 use Rattle.lt_laws.proofs.CollapseLaws.{goes_made, made_version}
-use Rattle.lt_laws.proofs.JobOutput.{layout_columns}
+use Rattle.lt_laws.proofs.TableGrowth.{are_columns, cols, layout_columns}
 use Rattle.lt_laws.proofs.LeafLaws.{IsMarked}
 use Rattle.lt_codecs.proofs.ListFacts.{all_map}
 use Rattle.lt_lemmas.proofs.ListFacts.{all_filter, all_from}
 use Rattle.lt_laws.proofs.ListFacts.{all_to_map}
 use Rattle.lt_laws.proofs.ScanLaws.{any_of}
-use Rattle.lt_laws.proofs.TableGrowth.{are_columns, cols}
 use Rattle.lt_lemmas.proofs.TableLaws.{fine_table}
 use Rattle.lt_laws.proofs.VersionGrowth.{widens_itself}
 use Rattle.lt_laws.proofs.WidenedStore.{known_carriers, lawful_fit, served}

@@ -21,7 +21,7 @@ use Rattle.lt_machine.specs.Sound.{PendingOfAll, passed, source_of}
 use Rattle.lt_tables.specs.Pump.{Part}
 use Rattle.lt_storage.specs.Store.{AreLawfulTables, Durable, IsKeyBytes, IsLawfulTable, TableDelta}
 use Rattle.lt_tables.specs.Version.{RowVersion, merge, seen}
-use Rattle.lt_laws.proofs.MemoryLaws.{memory_seen}
+use Rattle.lt_laws.proofs.MemorySeen.{memory_seen}
 use Rattle.lt_laws.proofs.AnswerLaws.{IsSound, sound_from}
 use Rattle.lt_codecs.proofs.ListFacts.{all_map}
 use Rattle.lt_lemmas.proofs.ListFacts.{all_from, find_held}

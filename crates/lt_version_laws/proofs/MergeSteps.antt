@@ -7,14 +7,12 @@ use Rattle.lt_terms.specs.Key.{below, same_key}
 use Rattle.lt_tables.specs.Version.{first_version}
 use Rattle.lt_tables.specs.Schema.{first_of}
 use Rattle.lt_tables.specs.Version.{RowVersion, is_ordered, merge, put_versions, same_name, stands_before}
-use Rattle.lt_laws.proofs.DeltaAdded.{same_names}
+use Rattle.lt_laws.proofs.MergeLaws.{merge-alone, merge-first, merge-only, merge-ordered, merged_member, named-itself, named-same, same_names}
 use Rattle.lt_laws.proofs.CoerceLaws.{both_ways}
-use Rattle.lt_laws.proofs.JobOutput.{merged_member}
 use Rattle.lt_codecs.proofs.ListFacts.{all_append, all_map}
 use Rattle.lt_lemmas.proofs.ListFacts.{all_from}
 use Rattle.lt_laws.proofs.ListFacts.{all_at, from_map}
 use Rattle.lt_lemmas.proofs.MergeLaws.{Above, above-before, above-same, before-not, before-other, before-trans, named, named-key, named-ts, ordered-above, ordered-cons, ordered-tail, same-itself, same-not-before}
-use Rattle.lt_laws.proofs.MergeLaws.{merge-alone, merge-first, merge-only, merge-ordered, named-itself, named-same}
 use Rattle.lt_version_laws.specs.Steps.{AreEmpty, AreOrdered, BeginsBehind, BeginsNotBefore, IsLeast, MergeSteps, past}
 
 -- ---- names

@@ -1,4 +1,4 @@
-use Rattle.lt_laws.proofs.MemoryLaws.{held_scans}
+use Rattle.lt_session_laws.proofs.MemoryLaws.{held_scans}
 use Rattle.lt_theorems.proofs.held_scans.Goals as goal
 
 pub returns : goal.returns

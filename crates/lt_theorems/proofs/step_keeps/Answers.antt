@@ -1,4 +1,4 @@
-use Rattle.lt_laws.proofs.AllSteps.{step_keeps}
+use Rattle.lt_session_laws.proofs.AllSteps.{step_keeps}
 use Rattle.lt_theorems.proofs.step_keeps.Goals as goal
 
 pub returns : goal.returns

@@ -1,4 +1,4 @@
-use Rattle.lt_laws.proofs.MemoryLaws.{unrefused_asks}
+use Rattle.lt_session_laws.proofs.MemoryLaws.{unrefused_asks}
 use Rattle.lt_theorems.proofs.unrefused_asks.Goals as goal
 
 pub returns : goal.returns

@@ -19,7 +19,18 @@ returns-clause-images g c =
     let v = device g in
     let old = c.args.disk.now in
     let mid = c.read_at.new.self in
-    let gate = open_read (v.state old).told c.args.slot c.place_of_gate.result c.read_at.new.buf c.place_of_gate.ensures c.read_at.auto.buf c.in_ok-read_at.ensures.bytes c.if-gate.false in
+    let gate = open_read (v.state old).told c.args.slot c.place_of_gate.result c.read_at.new.buf c.place_of_gate.ensures c.read_at.auto.buf c.in-Ok.ensures.bytes c.if-gate.false in
+    joined v old mid c.put.new.disk (v.state old).leaves (IsWithin (v.state mid) c.place_of_gate-2.result 1) (IsClosing (v.state old) c.args.slot)
+    (still v old mid (v.state old).leaves (λ image left. left) c.read_at.ensures.called.time c.read_at.ensures.crash) c.put.ensures.images
+    (λ image left. (image, left, inl refl))
+    (λ image within. closing (v.state old) (v.state mid) c.args.slot c.place_of_gate-2.result 1 image c.read_at.ensures.crash gate c.place_of_gate-2.ensures refl within)
+
+pub returns-in_err-put-clause-images : goal.returns-in_err-put-clause-images
+returns-in_err-put-clause-images g c =
+    let v = device g in
+    let old = c.args.disk.now in
+    let mid = c.read_at.new.self in
+    let gate = open_read (v.state old).told c.args.slot c.place_of_gate.result c.read_at.new.buf c.place_of_gate.ensures c.read_at.auto.buf c.in-Ok.ensures.bytes c.if-gate.false in
     joined v old mid c.put.new.disk (v.state old).leaves (IsWithin (v.state mid) c.place_of_gate-2.result 1) (IsClosing (v.state old) c.args.slot)
     (still v old mid (v.state old).leaves (λ image left. left) c.read_at.ensures.called.time c.read_at.ensures.crash) c.put.ensures.images
     (λ image left. (image, left, inl refl))
