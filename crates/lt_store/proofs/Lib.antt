@@ -1,0 +1,13 @@
+pub mod Covers
+pub mod Places
+pub mod Looking
+pub mod Heads
+pub mod Indexing
+pub mod Taken
+pub mod Steps
+pub mod FirstDamage
+pub mod Counting
+pub mod Spaces
+pub mod Replacing
+pub mod First
+pub mod Leading
