@@ -58,6 +58,13 @@ impl Space {
         })
     }
 
+    /// How many bytes the file may have.
+    pub fn limit(&self) -> u64
+        ensures { result ≡ self.now.limit }
+    {
+        self.limit
+    }
+
     /// Takes the lowest gap of a length. `StoreFull` where none is so long. An `Err` changes nothing.
     pub fn take(&mut self, length: u64) -> Result<Extent, SpaceRefusal>
         requires { 0 < length }

@@ -13,7 +13,7 @@ pub same : Extent → Extent → ℕ
 same a b = if (a.place == b.place && a.length == b.length) then 1 else 0
 
 -- how often a list holds an extent
-abbrev count : Extent → List Extent → ℕ
+abbrev pub count : Extent → List Extent → ℕ
 count e xs = sum_by (same e) xs
 
 data IsSame (a b : Extent) : Type 0 where

@@ -3,11 +3,13 @@ pub mod Places
 pub mod Looking
 pub mod Heads
 pub mod Indexing
-pub mod Taken
 pub mod Steps
 pub mod FirstDamage
 pub mod Counting
+pub mod Shelves
+pub mod Giving
 pub mod Spaces
+pub mod Preparing
 pub mod Replacing
 pub mod First
 pub mod Leading

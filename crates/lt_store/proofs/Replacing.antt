@@ -1,33 +1,32 @@
 -- How the images go on while a manifest is written to free space, and then made to count.
-use Rattle.std.proofs.Common.{List, None, Option, Some, ap, arith, inl, length, refl, subst, sym, ℕ, [], ◌++◌, ◌+◌, ◌-◌, ◌<◌, ◌∙◌, ◌∷◌, ◌≡◌, ◌≤◌, ◌⊎◌, true}
-use Rattle.std.specs.Prelude.{Err, IfErr, IsSome, IsTrue, Ok, OnErr, OnOk, Result, nat_le}
-use Rattle.std.proofs.lemmas.Bool.{and_from, and_parts, false≢true, le-leb}
+use Rattle.std.proofs.Common.{List, None, Option, Some, ap, arith, inl, inr, length, refl, subst, sym, ℕ, [], ◌++◌, ◌+◌, ◌-◌, ◌<◌, ◌∙◌, ◌∷◌, ◌≡◌, ◌≤◌, ◌⊎◌}
+use Rattle.std.specs.Prelude.{Contains, Err, IfErr, IsSome, IsTrue, Ok, OnErr, OnOk, Result, nat_le}
+use Rattle.std.proofs.lemmas.Bool.{and_parts, false≢true}
+use Rattle.std.proofs.lemmas.List.Sorted.{Contains-permutation, IsPermutation-sym}
 use Rattle.lt_terms.specs.declared.Extent.{Extent}
 use Rattle.lt_terms.specs.declared.Root.{Root}
 use Rattle.lt_world.specs.Disk.{LeavesNow, LeftOnly, StaysOutside, bytes_in, with_bytes}
 use Rattle.lt_world.specs.Extents.{end_of}
 use Rattle.lt_world.specs.Slots.{HasRoot, slot_place}
-use Rattle.lt_storage.specs.Store.{are_within, extents_of, manifest_bytes}
+use Rattle.lt_storage.specs.Store.{are_within, extents_of}
 use Rattle.lt_disk.specs.Within.{IsStable, IsWithin, ReadsWithin}
 use Rattle.lt_disk.proofs.Moments.{Device, holds_now, joined, told_at, weaker}
 use Rattle.lt_root.specs.Roots.{next_root}
 use Rattle.lt_root.specs.Steps.{HasCommitted}
 use Rattle.lt_root.specs.declared.refusal.CommitFault.{CommitFault}
 use Rattle.lt_root.specs.declared.refusal.CommitFault.TheVariants as faults
+use Rattle.lt_disk.proofs.Written.{stays_written}
+use Rattle.lt_laws.proofs.ListFacts.{contains_front, contains_rest, held_either}
 use Rattle.lt_image_laws.specs.Commit.{IsPrepared, IsRootedOnEither}
-use Rattle.lt_image_laws.specs.Next.{WritesManifest, those}
 use Rattle.lt_image_laws.specs.OnDisk.{IsCommit}
-use Rattle.lt_image_laws.specs.Shelf.{Shelved, manifest_for, placing_for, shelved_of}
 use Rattle.lt_image_laws.specs.Standing.{IsRooted, live_of}
-use Rattle.lt_image_laws.proofs.Apart.{apart_laws}
 use Rattle.lt_image_laws.proofs.Bytes.{bytes_stay}
 use Rattle.lt_image_laws.proofs.Commit.{commit_laws}
 use Rattle.lt_image_laws.proofs.Moves.{move_laws}
-use Rattle.lt_image_laws.proofs.Next.{next_is_prepared}
 use Rattle.lt_image_laws.proofs.OnDisk.{after_fault, after_ok, broken_either, either_stands, piece_in_gap}
-use Rattle.lt_image_laws.proofs.Placed.{shelf_laws}
 use Rattle.lt_image_laws.proofs.Standing.{honest_stays}
-use Rattle.lt_store.specs.Commits.{Going, IsWriting, Replaced, placing_behind}
+use Rattle.lt_store.specs.Commits.{Going, HasPieces, IsWriting, Replaced, pieces_of, placing_behind}
+use Rattle.lt_store.proofs.Preparing.{all_within, prepared_from, sealed_on}
 
 pub some_there : (o : Option (List ℕ)) → IsSome o → (image : List ℕ) × (o ≡ Some image)
 some_there None is = absurd (false≢true is)
@@ -69,11 +68,22 @@ module _ {D : Type 0} (v : Device D) (old mid : D) (root : Root) (e : Extent) (b
   next = next_root root e.place e.length
 
   abbrev Either : List ℕ → Type 0
-  Either image = IsRootedOnEither g.feed g.before g.placing g.made g.after (placing_behind (next_root root e.place e.length) g) g.made image
+  Either image = IsRootedOnEither g.feed g.before g.placing g.made g.after (placing_behind (next_root root e.place e.length) g) g.made_after image
+
+  made_live : (x : Extent) → Contains (live_of g.placing g.made) x → Contains (extents_of g.placing ++ (g.made ++ g.fresh)) x
+  made_live x there = elim (held_either (extents_of g.placing) g.made x there) [
+    | inl is ↦ contains_front (extents_of g.placing) (g.made ++ g.fresh) x is
+    | inr is ↦ contains_rest (extents_of g.placing) (g.made ++ g.fresh) x (contains_front g.made g.fresh x is)
+  ]
+
+  pieces_live : (x : Extent) → Contains (pieces_of g.added) x → Contains (extents_of g.placing ++ (g.made ++ g.fresh)) x
+  pieces_live x there =
+      contains_rest (extents_of g.placing) (g.made ++ g.fresh) x
+      (Contains-permutation (pieces_of g.added ++ g.made_after) (g.made ++ g.fresh) x (IsPermutation-sym (g.made ++ g.fresh) (pieces_of g.added ++ g.made_after) w.pieces) (contains_front (pieces_of g.added) g.made_after x there))
 
   -- at each moment of the write the state before stands
   pub before_stands : LeftOnly (v.state old) (v.state mid) (IsRooted g.feed g.before g.placing g.made)
-  before_stands = piece_in_gap v g.feed g.before g.placing g.made old mid w.stands (live_of g.placing g.made) g.before.durable.limit e w.gap (λ x c. c) images
+  before_stands = piece_in_gap v g.feed g.before g.placing g.made old mid w.stands (extents_of g.placing ++ (g.made ++ g.fresh)) g.before.durable.limit e w.gap made_live images
 
   before_now : LeavesNow (v.state mid) (IsRooted g.feed g.before g.placing g.made)
   before_now = holds_now v old mid (IsRooted g.feed g.before g.placing g.made) before_stands
@@ -87,7 +97,7 @@ module _ {D : Type 0} (v : Device D) (old mid : D) (root : Root) (e : Extent) (b
     broken = inl (λ c left. move_laws.breaks g.feed g.before g.after g.placing g.made c (before_now c left));
   }
 
-  module _ (seen : List ℕ) (tells : (v.state mid).told ≡ Some (with_bytes seen e.place bytes)) where
+  module _ (seen : List ℕ) (was : (v.state old).told ≡ Some seen) (tells : (v.state mid).told ≡ Some (with_bytes seen e.place bytes)) where
     now_reads : Before (with_bytes seen e.place bytes)
     now_reads = before_now (with_bytes seen e.place bytes) (told_at (v.state mid).told (with_bytes seen e.place bytes) (v.state mid).leaves tells (v.reads_an_image mid))
 
@@ -97,39 +107,36 @@ module _ {D : Type 0} (v : Device D) (old mid : D) (root : Root) (e : Extent) (b
     read_back : bytes_in (with_bytes seen e.place bytes) e ≡ bytes
     read_back = ap (λ n. bytes_in (with_bytes seen e.place bytes) (record { place = e.place; length = n })) w.size ∙ bytes_stay.there seen bytes e.place
 
-    all_those : those (λ n. true) g.placing ≡ shelved_of g.placing
-    all_those = (shelf_laws.all_kept (shelved_of g.placing) g.before.durable.shelf).0
+    had : HasPieces g seen
+    had = told_at (v.state old).told seen (HasPieces g) was w.written
 
     made_within : IsTrue (are_within (with_bytes seen e.place bytes) g.made)
     made_within = within_rest (with_bytes seen e.place bytes) (extents_of g.placing) g.made now_reads.honest.within
 
-    writes : WritesManifest g.before g.after g.placing (next_root root e.place e.length) (λ n. true) g.made (with_bytes seen e.place bytes)
-    writes = record {
-      generation = ap (λ (r : Root). r.generation + 1) (sym w.root_is) ∙ ap (λ n. n + 1) (honest_stays.generation g.feed g.before g.placing g.made _ now_reads) ∙ sym w.on.generation;
-      shelf = w.on.shelf ∙ sym (shelf_laws.all_kept (shelved_of g.placing) g.before.durable.shelf).1;
-      apart = w.apart;
-      within = and_from _ _ (le-leb _ _ limit_is) made_within;
-      bytes = read_back ∙ w.manifest ∙ ap (λ (ks : List Shelved). manifest_bytes (manifest_for g.after.durable ks)) (sym all_those);
-    }
+    fresh_within : IsTrue (are_within (with_bytes seen e.place bytes) g.fresh)
+    fresh_within = bytes_stay.all_within seen (with_bytes seen e.place bytes) g.fresh (stays_written seen e.place bytes).longer had.within
 
-    prepared : IsPrepared g.feed g.after (placing_behind (next_root root e.place e.length) g) g.made (with_bytes seen e.place bytes)
-    prepared = subst (λ (ks : List Shelved). IsPrepared g.feed g.after (placing_for (next_root root e.place e.length) g.after.durable ks) g.made (with_bytes seen e.place bytes)) all_those
-        (next_is_prepared.manifest g.feed g.before g.after g.placing g.made g.made (next_root root e.place e.length) (λ n. true) (with_bytes seen e.place bytes) now_reads
-        (record { fronts = w.on.fronts; good = w.on.good; limit = w.on.limit; job = w.on.job (with_bytes seen e.place bytes) now_reads.honest.job }) writes)
+    prepared : IsPrepared g.feed g.after (placing_behind (next_root root e.place e.length) g) g.made_after (with_bytes seen e.place bytes)
+    prepared =
+        prepared_from g.feed g.before g.after g.placing g.made g.made_after (next_root root e.place e.length) g.stays g.added (with_bytes seen e.place bytes) now_reads
+        (record { fronts = w.on.fronts; good = w.on.good; limit = w.on.limit; job = w.on.job (with_bytes seen e.place bytes) now_reads.honest.job })
+        (ap (λ (r : Root). r.generation + 1) (sym w.root_is) ∙ ap (λ n. n + 1) (honest_stays.generation g.feed g.before g.placing g.made _ now_reads) ∙ sym w.on.generation) w.on.shelf
+        (sealed_on seen bytes e w.size g.before.durable.limit (extents_of g.placing ++ (g.made ++ g.fresh)) g.added w.gap pieces_live had.sealed) w.apart
+        (all_within (with_bytes seen e.place bytes) g.made g.fresh g.made_after g.added e w.pieces made_within fresh_within limit_is) (read_back ∙ w.manifest)
 
-    is_commit : IsCommit (v.state mid) root e.place e.length (with_bytes seen e.place bytes) g.feed g.before g.after g.placing (placing_behind (next_root root e.place e.length) g) g.made g.made
+    is_commit : IsCommit (v.state mid) root e.place e.length (with_bytes seen e.place bytes) g.feed g.before g.after g.placing (placing_behind (next_root root e.place e.length) g) g.made g.made_after
     is_commit = record {
       from = w.root_is;
       to = refl;
       stands = before_now;
-      apart = apart_laws.rest g.before.durable.limit (extents_of g.placing ++ e ∷ []) g.made w.apart;
+      apart = w.made_apart;
       prepared = prepared;
     }
 
     -- what the root's commit asks
     pub may_commit : (1024 ≤ e.place) × (0 < e.length) × LeavesNow (v.state mid) (HasRoot root)
     may_commit =
-        let may = commit_laws.may_stand g.feed g.after (placing_behind (next_root root e.place e.length) g) g.made (with_bytes seen e.place bytes) prepared in
+        let may = commit_laws.may_stand g.feed g.after (placing_behind (next_root root e.place e.length) g) g.made_after (with_bytes seen e.place bytes) prepared in
         (may.0, may.1, λ c left. subst (λ r. HasRoot r c) w.root_is (before_now c left).root)
 
     -- what it gives
@@ -141,12 +148,12 @@ module _ {D : Type 0} (v : Device D) (old mid : D) (root : Root) (e : Extent) (b
           → ReadsWithin (slot_place (1 - root.slot)) 512 (v.state mid) (v.state new) → OnOk result (IsStable (v.state new)) → Replaced (v.state old) (v.state new) (next_root root e.place e.length) g result
       replaced acknowledged unwritten torn others stable = record {
         any_moment = joined v old mid new Before Either Either before_stands
-            (either_stands v mid new root e.place e.length inside g.feed g.before g.after g.placing (placing_behind (next_root root e.place e.length) g) g.made g.made (with_bytes seen e.place bytes) is_commit moments)
+            (either_stands v mid new root e.place e.length inside g.feed g.before g.after g.placing (placing_behind (next_root root e.place e.length) g) g.made g.made_after (with_bytes seen e.place bytes) is_commit moments)
             (λ c is. inl is) (λ c is. is);
         acknowledged = on_both result stable acknowledged (λ fixed now.
-            after_ok v mid new root e.place e.length inside g.feed g.before g.after g.placing (placing_behind (next_root root e.place e.length) g) g.made g.made (with_bytes seen e.place bytes) is_commit tells others fixed now);
+            after_ok v mid new root e.place e.length inside g.feed g.before g.after g.placing (placing_behind (next_root root e.place e.length) g) g.made g.made_after (with_bytes seen e.place bytes) is_commit tells others fixed now);
         unwritten = on_fault (λ x. x ≡ faults.Read) result unwritten (λ still.
-            after_fault v mid new root e.place e.length inside g.feed g.before g.after g.placing (placing_behind (next_root root e.place e.length) g) g.made g.made (with_bytes seen e.place bytes) is_commit still);
+            after_fault v mid new root e.place e.length inside g.feed g.before g.after g.placing (placing_behind (next_root root e.place e.length) g) g.made g.made_after (with_bytes seen e.place bytes) is_commit still);
         broken = on_err result torn (λ one.
-            broken_either v mid new root e.place e.length inside g.feed g.before g.after g.placing (placing_behind (next_root root e.place e.length) g) g.made g.made (with_bytes seen e.place bytes) is_commit moments one);
+            broken_either v mid new root e.place e.length inside g.feed g.before g.after g.placing (placing_behind (next_root root e.place e.length) g) g.made g.made_after (with_bytes seen e.place bytes) is_commit moments one);
       }

@@ -1,11 +1,10 @@
 -- What an opening answers where one of its steps refuses, and where none does.
 use Rattle.std.proofs.Common.{List, Option, ap, arith, inl, inr, length, refl, subst, sym, ℕ, ◌+◌, ◌-◌, ◌∙◌, ◌≡◌, ◌≤◌}
-use Rattle.std.specs.Prelude.{Contains, Err, IfSome, IsTrue, Ok, Result, map}
+use Rattle.std.specs.Prelude.{Err, IfSome, IsTrue, Ok, Result, map}
 use Rattle.std.specs.Result.{IsErrAnd}
 use Rattle.std.specs.List.{AllByRecursion}
 use Rattle.std.specs.List.Sorted.{IsPermutation}
 use Rattle.std.proofs.lemmas.List.{append-nil, length-map}
-use Rattle.std.proofs.lemmas.List.Sorted.{Contains-permutation}
 use Rattle.lt_terms.specs.declared.Extent.{Extent}
 use Rattle.lt_terms.specs.declared.Root.{Root}
 use Rattle.lt_world.specs.Disk.{DiskState, HasCause, bytes_in}
@@ -28,12 +27,10 @@ use Rattle.lt_manifest.specs.View.{view_delta, view_manifest}
 use Rattle.lt_manifest.specs.declared.stored.Manifest.{Manifest}
 use Rattle.lt_store.specs.Looking.{LooksOnly}
 use Rattle.lt_store.specs.Opening.{HurtsIndexes, HurtsManifest, IsFirstDamage, IsLeastMisplaced, MeetsFirst, OpensSynced, RefusesOpening, RefusesStep, in_index, in_manifest, in_places, in_slots, of_disk, of_sync, refusal_of_root}
-use Rattle.lt_store.specs.Taken.{is_taken}
 use Rattle.lt_store.specs.declared.opening.Opened.{Opened}
 use Rattle.lt_store.specs.declared.refusal.OpenRefusal.{OpenRefusal}
 use Rattle.lt_store.specs.declared.refusal.OpenRefusal.TheVariants as refusals
 use Rattle.lt_store.proofs.Looking.{looks_on}
-use Rattle.lt_store.proofs.Taken.{taken_so}
 
 -- ---- errors
 
@@ -180,7 +177,7 @@ module _ {D : Type 0} (v : Device D) where
 
 pub opens : (old new : DiskState) (o : Opened) (live : List Extent) → LooksOnly (1 + 2 + length o.manifest.deltas) old new → new.faults ≡ old.faults → IfSome old.told (λ image. HasManifest image o.store.root (view_manifest o.manifest))
     → IfSome old.told (λ image. ReadsAll image o.manifest.catalogue (view_manifest o.manifest).deltas (map view_index o.indexes.items)) → IsLawfulManifest (view_manifest o.manifest) → AllByRecursion IsLawful (map view_index o.indexes.items)
-    → live ≡ named_extents o.store.root (view_manifest o.manifest) (map view_index o.indexes.items) → IsTrue (are_apart o.manifest.limit live) → IsPermutation live o.store.space.taken → o.store.limit ≡ o.manifest.limit → OpensSynced old new (Ok o)
+    → live ≡ named_extents o.store.root (view_manifest o.manifest) (map view_index o.indexes.items) → IsTrue (are_apart o.manifest.limit live) → IsPermutation live o.store.space.taken → o.store.space.limit ≡ o.manifest.limit → OpensSynced old new (Ok o)
 opens old new o live looks kept has reads lawful all named apart taken limit = record {
   opened = where_told old.told _ (λ image tells.
       let h = told_at old.told image _ tells has in
@@ -199,7 +196,3 @@ opens old new o live looks kept has reads lawful all named apart taken limit = r
   cause = no_cause old.faults new.faults (Ok tt) kept refl;
   written = no_cause old.write_faults new.write_faults (Ok tt) looks.write_faults refl;
 }
-
--- the manifest's extent is taken
-pub root_there : (r : Root) (m : store.Manifest) (is : List (List store.TableIndex)) (live taken : List Extent) → live ≡ named_extents r m is → IsPermutation live taken → IsTrue (is_taken taken (root_extent r))
-root_there r m is live taken named p = taken_so taken (root_extent r) (Contains-permutation live taken (root_extent r) p (subst (λ xs. Contains xs (root_extent r)) (sym named) (0, omega arith, refl)))

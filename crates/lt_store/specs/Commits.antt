@@ -1,20 +1,21 @@
 -- What a commit needs, and what it leaves: of the images, of the store, and of the session that stood on them.
-use Rattle.std.specs.Prelude.{Bool, IfErr, IsSome, IsTrue, List, OnErr, OnOk, [], false, length, true, ⊤, ℕ, ◌++◌, ◌+◌, ◌∷◌, ◌≡◌, ◌⊎◌}
+use Rattle.std.specs.Prelude.{Bool, IfErr, IfSome, IsSome, IsTrue, List, None, OnErr, OnOk, Option, Some, [], false, filter, length, not, true, ⊤, ℕ, ◌++◌, ◌+◌, ◌∷◌, ◌≡◌, ◌⊎◌}
 use Rattle.std.specs.List.Sorted.{IsPermutation}
 use Rattle.std.specs.declared.result.Result.{Result}
 use Rattle.std.specs.declared.result.Result.TheVariants.{Err, Ok}
 use Rattle.lt_terms.specs.Log.{Header, Item}
 use Rattle.lt_terms.specs.declared.Extent.{Extent}
 use Rattle.lt_terms.specs.declared.Root.{Root}
-use Rattle.lt_world.specs.Disk.{DiskState, LeavesNow, LeftOnly}
+use Rattle.lt_world.specs.Disk.{DiskState, LeavesNow, LeftOnly, bytes_in}
 use Rattle.lt_world.specs.Extents.{IsFull, are_apart, is_gap}
 use Rattle.lt_world.specs.Feed.{Feed}
-use Rattle.lt_storage.specs.Store.{Manifest, Placing, extents_of, manifest_bytes}
+use Rattle.lt_storage.specs.Store.{Delta, Manifest, Placing, are_within, bundle_extents, extents_of, index_bytes, manifest_bytes, root_extent}
 use Rattle.lt_machine.specs.Machine.{State}
 use Rattle.lt_machine.specs.Outside.{IsHonest, MadeStand}
 use Rattle.lt_machine.specs.Sound.{IsGood}
 use Rattle.lt_image_laws.specs.Commit.{IsRootedOnEither, broken_at, broken_by}
-use Rattle.lt_image_laws.specs.Shelf.{manifest_for, placing_for, shelved_of}
+use Rattle.lt_image_laws.specs.Next.{those}
+use Rattle.lt_image_laws.specs.Shelf.{FitsIndex, Shelved, TablesStand, manifest_for, placing_for, shelf_extents}
 use Rattle.lt_image_laws.specs.Standing.{IsRooted, placed_at}
 use Rattle.lt_root.specs.declared.refusal.CommitFault.{CommitFault}
 use Rattle.lt_root.specs.declared.refusal.CommitFault.TheVariants as faults
@@ -24,34 +25,91 @@ use Rattle.lt_store.specs.declared.committing.CommitRefusal.{CommitRefusal}
 use Rattle.lt_store.specs.declared.committing.CommitRefusal.TheVariants as refusals
 use Rattle.lt_store.specs.declared.store.Store.{Store}
 
--- The machine's state before and after a commit, where its durable part stands before, and what a job has made.
+-- A delta that comes with a commit, and how it is kept.
+pub record Added : Type 0 where
+  pub kept : Shelved
+  pub delta : Delta
+
+-- The machine's state before and after a commit, where its durable part stands before, and what was written for it: the deltas that stay, by
+-- their ids, the one that comes, if any, what a job has made before and after, and what else was written to free space.
 pub record Going : Type 0 where
   pub feed : Feed
   pub before : State
   pub after : State
   pub placing : Placing
+  pub stays : ℕ → Bool
+  pub added : Option Added
   pub made : List Extent
+  pub made_after : List Extent
+  pub fresh : List Extent
 
--- where the part after stands behind a root: over the same deltas
+-- the extents of the bundles and of the index of the delta that comes
+abbrev pub pieces_of : Option Added → List Extent
+pieces_of None = []
+pieces_of (Some a) = bundle_extents (a.kept.index ∷ []) ++ a.kept.extent ∷ []
+
+-- with the extent of a manifest behind them
+abbrev pub pieces_behind : Option Added → Extent → List Extent
+pieces_behind None e = e ∷ []
+pieces_behind (Some a) e = bundle_extents (a.kept.index ∷ []) ++ a.kept.extent ∷ e ∷ []
+
+abbrev pub kept_with : List Shelved → Option Added → List Shelved
+kept_with ks None = ks
+kept_with ks (Some a) = ks ++ a.kept ∷ []
+
+abbrev pub shelf_with : List Delta → Option Added → List Delta
+shelf_with xs None = xs
+shelf_with xs (Some a) = xs ++ a.delta ∷ []
+
+-- the deltas after a commit, as they are kept
+abbrev pub kept_behind : Going → List Shelved
+kept_behind g = kept_with (those g.stays g.placing) g.added
+
+-- what the deltas that leave name
+abbrev pub leaving_of : Going → List Extent
+leaving_of g = shelf_extents (those (λ n. not (g.stays n)) g.placing)
+
+-- where the part after stands behind a root
 abbrev pub placing_behind : Root → Going → Placing
-placing_behind r g = placing_for r g.after.durable (shelved_of g.placing)
+placing_behind r g = placing_for r g.after.durable (kept_behind g)
 
--- What leads from the one session to the other: the state after is good, with the same limit, deltas and bundles of a job, and one commit more.
+-- What leads from the one session to the other: the state after is good, with the same limit, the deltas that stay and the one that comes, one
+-- commit more, and a job whose bundles stand.
 pub record LeadsOn (g : Going) : Type 0 where
   pub fronts : List (Header × List Item)
   pub good : IsGood g.feed g.after fronts
   pub limit : g.after.durable.limit ≡ g.before.durable.limit
-  pub shelf : g.after.durable.shelf ≡ g.before.durable.shelf
+  pub shelf : g.after.durable.shelf ≡ shelf_with (filter (λ x. g.stays x.id) g.before.durable.shelf) g.added
   pub generation : g.after.durable.generation ≡ g.before.durable.generation + 1
-  pub job : (image : List ℕ) → MadeStand g.before.job g.before g.made image → MadeStand g.after.job g.after g.made image
+  pub job : (image : List ℕ) → MadeStand g.before.job g.before g.made image → MadeStand g.after.job g.after g.made_after image
 
--- What a commit of a manifest needs: the state before stands on every image, the store at its placing, and the manifest is that of the state after.
-pub record IsReady (disk : DiskState) (store : Store) (m : Manifest) (g : Going) : Type 0 where
+-- the image has the bundles and the index of a delta
+pub record IsSealed (image : List ℕ) (a : Added) : Type 0 where
+  pub id : a.delta.id ≡ a.kept.id
+  pub tables : TablesStand image a.kept.index a.delta.tables
+  pub fits : FitsIndex a.kept.index
+  pub index : bytes_in image a.kept.extent ≡ index_bytes a.kept.index
+
+-- it has those of the delta that comes, and all that was written lies within the file
+pub record HasPieces (g : Going) (image : List ℕ) : Type 0 where
+  pub sealed : IfSome g.added (IsSealed image)
+  pub within : IsTrue (are_within image g.fresh)
+
+-- What was written is what the delta that comes and the job name after the commit.
+abbrev pub ArePieces : Going → Type 0
+ArePieces g = IsPermutation (g.made ++ g.fresh) (pieces_of g.added ++ g.made_after)
+
+-- What a commit of a manifest needs: the state before stands on every image, the store at its placing with all that was written, and the manifest
+-- is that of the state after. What the deltas that leave name may come in any order.
+pub record IsReady (disk : DiskState) (store : Store) (m : Manifest) (leaving : List Extent) (g : Going) : Type 0 where
   pub tells : IsSome disk.told
   pub stands : LeavesNow disk (IsRooted g.feed g.before g.placing g.made)
-  pub at : StandsAt store g.placing g.made
+  pub at : StandsAt store g.placing (g.made ++ g.fresh)
   pub on : LeadsOn g
-  pub manifest : m ≡ manifest_for g.after.durable (shelved_of g.placing)
+  pub pieces : ArePieces g
+  pub written : IfSome disk.told (HasPieces g)
+  pub leaves : IsPermutation (leaving_of g) leaving
+  pub manifest : m ≡ manifest_for g.after.durable (kept_behind g)
 
 -- The same where an extent was taken for the manifest: it is apart from all that is live.
 pub record IsWriting (disk : DiskState) (root : Root) (extent : Extent) (bytes : List ℕ) (g : Going) : Type 0 where
@@ -59,10 +117,13 @@ pub record IsWriting (disk : DiskState) (root : Root) (extent : Extent) (bytes :
   pub stands : LeavesNow disk (IsRooted g.feed g.before g.placing g.made)
   pub root_is : g.placing.root ≡ root
   pub on : LeadsOn g
+  pub pieces : ArePieces g
+  pub written : IfSome disk.told (HasPieces g)
   pub size : extent.length ≡ length bytes
-  pub apart : IsTrue (are_apart g.before.durable.limit ((extents_of g.placing ++ extent ∷ []) ++ g.made))
-  pub gap : IsTrue (is_gap g.before.durable.limit (extents_of g.placing ++ g.made) extent)
-  pub manifest : bytes ≡ manifest_bytes (manifest_for g.after.durable (shelved_of g.placing))
+  pub apart : IsTrue (are_apart g.before.durable.limit ((extents_of g.placing ++ pieces_behind g.added extent) ++ g.made_after))
+  pub made_apart : IsTrue (are_apart g.before.durable.limit g.made)
+  pub gap : IsTrue (is_gap g.before.durable.limit (extents_of g.placing ++ (g.made ++ g.fresh)) extent)
+  pub manifest : bytes ≡ manifest_bytes (manifest_for g.after.durable (kept_behind g))
 
 -- the images after a write or a sync failed: nothing of the part after is placed in any, or all of it in each
 abbrev pub IsBroken : DiskState → Root → Going → Type 0
@@ -72,9 +133,9 @@ IsBroken disk r g = LeavesNow disk (IsHonest g.feed (placed_at (broken_by g.afte
 -- What a commit leaves of the images, by how it ended.
 pub record Replaced (old new : DiskState) (r : Root) (g : Going) (result : Result (Unit {0}) CommitFault) : Type 0 where
   -- at each moment each image is of the state before or of the one after
-  pub any_moment : LeftOnly old new (IsRootedOnEither g.feed g.before g.placing g.made g.after (placing_behind r g) g.made)
+  pub any_moment : LeftOnly old new (IsRootedOnEither g.feed g.before g.placing g.made g.after (placing_behind r g) g.made_after)
   -- after Ok the one after stands on every image
-  pub acknowledged : OnOk result (LeavesNow new (IsRooted g.feed g.after (placing_behind r g) g.made))
+  pub acknowledged : OnOk result (LeavesNow new (IsRooted g.feed g.after (placing_behind r g) g.made_after))
   -- after a fault in a read the one before does
   pub unwritten : IfErr result (λ e. e ≡ faults.Read → LeavesNow new (IsRooted g.feed g.before g.placing g.made))
   -- after any fault the images are honest
@@ -85,33 +146,43 @@ pub record HasCommitted (old new : DiskState) (store : Store) (g : Going) (resul
   -- the root that it makes count
   pub root : Root
   -- at each moment each image is of the state before or of the one after
-  pub any_moment : LeftOnly old new (IsRootedOnEither g.feed g.before g.placing g.made g.after (placing_behind root g) g.made)
+  pub any_moment : LeftOnly old new (IsRootedOnEither g.feed g.before g.placing g.made g.after (placing_behind root g) g.made_after)
   -- after Ok the one after stands on every image
-  pub acknowledged : OnOk result (LeavesNow new (IsRooted g.feed g.after (placing_behind root g) g.made) × StandsAt store (placing_behind root g) g.made)
+  pub acknowledged : OnOk result (LeavesNow new (IsRooted g.feed g.after (placing_behind root g) g.made_after) × StandsAt store (placing_behind root g) g.made_after)
   -- after a refusal that does not break the store the one before does
-  pub refused : OnErr result (store.broken ≡ false → LeavesNow new (IsRooted g.feed g.before g.placing g.made) × StandsAt store g.placing g.made)
+  pub refused : OnErr result (store.broken ≡ false → LeavesNow new (IsRooted g.feed g.before g.placing g.made) × StandsAt store g.placing (g.made ++ g.fresh))
   -- a broken store's images are honest
   pub broken : store.broken ≡ true → IsBroken new root g
+
+-- the store's manifest and all that leaves are taken
+pub record HasTaken (store : Store) (leaving : List Extent) : Type 0 where
+  pub rest : List Extent
+  pub all : IsPermutation (root_extent store.root ∷ (leaving ++ rest)) store.space.taken
+
+-- the new manifest is taken in place of the old one, and what leaves is free
+pub record HasMoved (old new : Store) (leaving : List Extent) : Type 0 where
+  pub limit : new.space.limit ≡ old.space.limit
+  pub broken : new.broken ≡ false
+  pub taken : (rest : List Extent) → IsPermutation (root_extent old.root ∷ (leaving ++ rest)) old.space.taken → IsPermutation (root_extent new.root ∷ rest) new.space.taken
 
 -- the store is as it was
 pub record StaysStore (old new : Store) : Type 0 where
   pub root : new.root ≡ old.root
-  pub limit : new.limit ≡ old.limit
   pub space : new.space ≡ old.space
   pub broken : new.broken ≡ old.broken
 
 -- the store is broken: only what is taken has grown
 pub record IsBrokenOff (old new : Store) : Type 0 where
   pub root : new.root ≡ old.root
-  pub limit : new.limit ≡ old.limit
+  pub limit : new.space.limit ≡ old.space.limit
   pub broken : new.broken ≡ true
   pub extent : Extent
   pub taken : IsPermutation (old.space.taken ++ extent ∷ []) new.space.taken
 
 -- what a commit leaves of the store on any disk
-abbrev pub HasKept : Store → Store → Result (Unit {0}) CommitRefusal → Type 0
-HasKept old new (Ok _) = (new.limit ≡ old.limit) × (new.broken ≡ false)
-HasKept old new (Err e) = StaysStore old new ⊎ ((e ≡ refusals.Disk) × IsBrokenOff old new)
+abbrev pub HasKept : Store → Store → List Extent → Result (Unit {0}) CommitRefusal → Type 0
+HasKept old new leaving (Ok _) = HasMoved old new leaving
+HasKept old new leaving (Err e) = StaysStore old new ⊎ ((e ≡ refusals.Disk) × IsBrokenOff old new)
 
 -- why no gap of a length is taken; out of memory is always allowed
 abbrev pub RefusesGap : Extents → ℕ → CommitRefusal → Type 0

@@ -1,5 +1,4 @@
 pub mod Standing
-pub mod Taken
 pub mod Covering
 pub mod Looking
 pub mod Opening

@@ -9,5 +9,5 @@ use Rattle.lt_store.specs.declared.store.Store.{Store}
 -- is live.
 pub record StandsAt (s : Store) (l : Placing) (besides : List Extent) : Type 0 where
   pub root : l.root ≡ s.root
-  pub limit : l.manifest.limit ≡ s.limit
+  pub limit : l.manifest.limit ≡ s.space.limit
   pub taken : IsPermutation (extents_of l ++ besides) s.space.taken

@@ -1,13 +1,15 @@
 //! A commit: the next manifest is written to free space, and then made to count. It takes all its memory before the first write.
 
-ghost use Rattle.std.specs.Prelude.{◌≡◌, ◌<◌, ◌+◌, ◌-◌, ◌^◌, ◌⊎◌, IfErr, IfOk, OnErr, OnOk, false, length};
+ghost use Rattle.std.specs.Prelude.{◌≡◌, ◌<◌, ◌+◌, ◌++◌, ◌-◌, ◌^◌, ◌⊎◌, IfErr, IfOk, List, OnErr, OnOk, false, length};
+ghost use Rattle.std.specs.List.Sorted.{IsPermutation};
+ghost use Rattle.lt_terms.specs.declared.Extent.{Extent};
 ghost use Rattle.lt_world.specs.Disk.{CountsOne, DiskGoes, HasCause};
 ghost use Rattle.lt_storage.specs.Store.{IsLawfulManifest};
 ghost use Rattle.lt_manifest.specs.View.{view_manifest};
 ghost use Rattle.lt_delta.specs.Writing.{TakesGap};
 ghost use Rattle.lt_root.specs.Roots.{next_root};
 ghost use Rattle.lt_root.specs.Steps.{of_write};
-ghost use Rattle.lt_store.specs.Commits.{Going, HasCommitted, HasKept, IsReady, IsWriting, RefusesCommit, RefusesGap, Replaced, fault_if, of_disk};
+ghost use Rattle.lt_store.specs.Commits.{Going, HasCommitted, HasKept, HasTaken, IsReady, IsWriting, RefusesCommit, RefusesGap, Replaced, fault_if, of_disk};
 ghost use Rattle.lt_store.specs.declared.committing.CommitRefusal.TheVariants as refusals;
 
 use crate::store::Store;
@@ -34,25 +36,27 @@ pub enum CommitRefusal {
 }
 
 impl Store {
-    /// Makes the next manifest count, over the deltas that stand. A refusal leaves the store as it was, but for a write or a sync that
-    /// failed: that breaks it, and what was taken stays taken.
+    /// Makes the next manifest count. `leaving` are the extents of the deltas that it no longer names: they are free after Ok. A refusal
+    /// leaves the store as it was, but for a write or a sync that failed: that breaks it, and what was taken stays taken.
     pub fn commit<D: Disk>(
         &mut self,
         alloc: Global,
         disk: &mut D,
         next: &Manifest,
+        leaving: &[Extent],
     ) -> Result<(), CommitRefusal>
         requires whole { self.old.broken ≡ false }
         requires generation { self.old.root.generation < 2 ^ 64 - 1 }
         requires lawful { IsLawfulManifest (view_manifest next.now) }
+        requires taken { HasTaken self.old leaving.now }
 
-        // From a session that stands on every image to the next one, of the same deltas.
-        ensures leads { (g : Going) → IsReady (D.state disk.old) self.old (view_manifest next.now) g
+        // From a session that stands on every image to the next one.
+        ensures leads { (g : Going) → IsReady (D.state disk.old) self.old (view_manifest next.now) leaving.now g
             → HasCommitted (D.state disk.old) (D.state disk.new) self.new g result }
 
         // On any disk: one commit more, or all as it was, or broken.
         ensures ok { OnOk result (self.new.root.generation ≡ self.old.root.generation + 1) }
-        ensures kept { HasKept self.old self.new result }
+        ensures kept { HasKept self.old self.new leaving.now result }
         ensures refused { IfErr result (RefusesCommit self.old (view_manifest next.now)) }
         ensures untouched { IfErr result (λ e. (e ≡ refusals.Disk) ⊎ (disk.new ≡ disk.old)) }
 
@@ -72,6 +76,7 @@ impl Store {
         match replace(disk, &mut self.root, extent, bytes.as_slice()) {
             Ok(()) => {
                 self.space.give(former);
+                give_all(&mut self.space, leaving);
                 Ok(())
             }
             Err(CommitFault::Read) => {
@@ -122,6 +127,18 @@ fn take_gap(space: &mut Space, len: u64) -> Result<Extent, CommitRefusal>
         Ok(extent) => Ok(extent),
         Err(SpaceRefusal::StoreFull { need, room }) => Err(CommitRefusal::StoreFull { need, room }),
         Err(_) => Err(CommitRefusal::Memory),
+    }
+}
+
+/// Gives back extents that are taken.
+fn give_all(space: &mut Space, extents: &[Extent])
+    requires { (rest : List Extent) × IsPermutation (extents.now ++ rest) space.old.taken }
+    ensures limit { space.new.limit ≡ space.old.limit }
+    ensures rest { (rest : List Extent) → IsPermutation (extents.now ++ rest) space.old.taken
+        → IsPermutation rest space.new.taken }
+{
+    for extent in extents {
+        space.give(*extent);
     }
 }
 

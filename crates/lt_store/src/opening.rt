@@ -74,7 +74,6 @@ fn open_synced<D: Disk>(alloc: Global, disk: &mut D) -> Result<Opened, OpenRefus
     let space = space_of(alloc, manifest.limit, &live)?;
     let store = Store {
         root,
-        limit: manifest.limit,
         space,
         broken: false,
     };

@@ -1,8 +1,6 @@
 //! A store in use.
 
-ghost use Rattle.std.specs.Prelude.{◌<◌, ◌≡◌, IsTrue};
-ghost use Rattle.lt_storage.specs.Store.{root_extent};
-ghost use Rattle.lt_store.specs.Taken.{is_taken};
+ghost use Rattle.std.specs.Prelude.{◌<◌};
 
 use lt_space::Space;
 use lt_terms::Root;
@@ -11,19 +9,15 @@ use lt_terms::Root;
 #[derive(Debug, Drop)]
 pub struct Store {
     pub(crate) root: Root,
-    /// How many bytes the file may have.
-    pub(crate) limit: u64,
-    pub(crate) space: Space,
+    /// What is taken of the file. The pieces of a delta are written to it before the commit that names them.
+    pub space: Space,
     /// A write or a sync has failed. Nothing is written until the store is opened anew.
     pub(crate) broken: bool,
     pub ghost slot: { root.slot < 2 },
-    pub ghost limited: { space.limit ≡ limit },
-    /// The extent of the manifest that counts is taken.
-    pub ghost there: { IsTrue (is_taken space.taken (root_extent root)) },
 }
 
 impl Store {
-    ghost use Rattle.std.specs.Prelude.{◌≡◌};
+    ghost use Rattle.std.specs.Prelude.{◌≡◌, true};
 
     /// How many commits were made, from 1.
     pub fn generation(&self) -> u64
@@ -34,9 +28,9 @@ impl Store {
 
     /// How many bytes the file may have.
     pub fn limit(&self) -> u64
-        ensures { result ≡ self.now.limit }
+        ensures { result ≡ self.now.space.limit }
     {
-        self.limit
+        self.space.limit()
     }
 
     /// Whether a write or a sync has failed.
@@ -44,5 +38,14 @@ impl Store {
         ensures { result ≡ self.now.broken }
     {
         self.broken
+    }
+
+    /// A write to the space has failed.
+    pub fn break_off(&mut self)
+        ensures root { self.new.root ≡ self.old.root }
+        ensures space { self.new.space ≡ self.old.space }
+        ensures broken { self.new.broken ≡ true }
+    {
+        self.broken = true;
     }
 }

@@ -28,8 +28,8 @@ returns-in-Ok-clause-leads g c = λ going w.
     let seen = with_bytes there.0 e.place bytes in
     let images = (wrote v old mid e bytes w.size c.write_at.ensures.crash c.write_at.ensures.called.time c.write_at.ensures.called.stays c.in-Ok.ensures.bytes).images in
     let tells = told_at (v.state old).told there.0 _ there.1 (told_written (v.state old).told (v.state mid).told e.place bytes c.write_at.ensures.called.stays c.in-Ok.ensures.bytes) in
-    let may = may_commit v old mid root e bytes going w images there.0 tells in
-    replaced v old mid root e bytes going w images there.0 tells c.try_commit.new.disk c.try_commit.ensures.images
+    let may = may_commit v old mid root e bytes going w images there.0 there.1 tells in
+    replaced v old mid root e bytes going w images there.0 there.1 tells c.try_commit.new.disk c.try_commit.ensures.images
     (told_at (v.state mid).told seen _ tells c.try_commit.ensures.any_moment may.0 may.1 may.2) c.try_commit.result
     (told_at (v.state mid).told seen _ tells c.try_commit.ensures.acknowledged may.0 may.1 may.2)
     (told_at (v.state mid).told seen _ tells c.try_commit.ensures.unwritten may.0 may.1 may.2)

@@ -1,4 +1,4 @@
-use Rattle.std.proofs.Common.{ap, refl, subst, sym, ◌∙◌}
+use Rattle.std.proofs.Common.{ap, subst, sym, ◌∙◌}
 use Rattle.std.specs.Prelude.{IfSome, map}
 use Rattle.lt_disk.proofs.Moments.{Device}
 use Rattle.lt_machine.specs.Program.{ReadsAll}
@@ -8,7 +8,7 @@ use Rattle.lt_manifest.specs.View.{view_manifest}
 use Rattle.lt_store.specs.Opening.{OpensSynced, refusal_of_root}
 use Rattle.lt_store.specs.declared.refusal.OpenRefusal.TheVariants as refusals
 use Rattle.lt_store.proofs.Looking.{looks_on, looks_once}
-use Rattle.lt_store.proofs.Steps.{behind, is_error, looks_behind, no_indexes, no_manifest, no_memory, no_root, no_space, opens, root_there, value_of}
+use Rattle.lt_store.proofs.Steps.{behind, is_error, looks_behind, no_indexes, no_manifest, no_memory, no_root, no_space, opens, value_of}
 use Rattle.lt_store.proofs.opening.open_synced.Given as given
 use Rattle.lt_store.proofs.opening.open_synced.Goals as goal
 
@@ -86,16 +86,7 @@ returns-in_err-space g c =
     c.in_err-space.ensures.own c.in_err-space.ensures.refused)
 
 pub invariant_of-store : goal.invariant_of-store
-invariant_of-store g c =
-    let r = c.in_ok-root.root in
-    let m = c.in_ok-manifest.manifest in
-    let is = c.in_ok-indexes.indexes.items in
-    let named = c.deref-2.ensures.value ∙ c.in_ok-live.ensures ∙ ap (λ xs. named_extents r (view_manifest m) (map view_index xs)) c.deref.ensures.value in
-    record {
-      slot = c.in_ok-root.ensures.lawful.1;
-      limited = c.in_ok-space.ensures.limit;
-      there = root_there r (view_manifest m) (map view_index is) c.deref-2.result.now c.in_ok-space.space.taken named c.in_ok-space.ensures.taken;
-    }
+invariant_of-store g c = record { slot = c.in_ok-root.ensures.lawful.1 }
 
 pub returns : goal.returns
 returns g c =
@@ -112,4 +103,4 @@ returns g c =
     let reads = subst (λ told. IfSome told (λ image. ReadsAll image m.catalogue (view_manifest m).deltas (map view_index is))) was.looks.told all.read in
     let named = c.deref-2.ensures.value ∙ c.in_ok-live.ensures ∙ ap (λ xs. named_extents r (view_manifest m) (map view_index xs)) c.deref.ensures.value in
     opens old now _ c.deref-2.result.now (looks_behind v c.args.disk.now c.read_manifest.new.disk c.read_indexes.new.disk r m was all.looks) (all.cause.kept ∙ was.faults) was.has reads read.lawful all.lawful named
-    c.in_ok-space.ensures.apart c.in_ok-space.ensures.taken refl
+    c.in_ok-space.ensures.apart c.in_ok-space.ensures.taken c.in_ok-space.ensures.limit
