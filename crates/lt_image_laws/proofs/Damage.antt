@@ -1,5 +1,5 @@
 -- What a reading cannot read is damage, and on a sound image none shows.
-use Rattle.std.proofs.Common.{Bool, List, Some, [], ap, arith, false, get_or, inl, inr, length, leb-true, ltb-true, refl, subst, sym, suc, true, zero, ℕ, ◌-◌, ◌<◌, ◌∙◌, ◌∷◌, ◌≡◌, ◌≤◌, ◌⊎◌}
+use Rattle.std.proofs.Common.{Bool, List, Some, [], ap, arith, false, get_or, inl, inr, length, leb-true, ltb-true, refl, subst, sym, suc, true, zero, ℕ, ◌++◌, ◌-◌, ◌<◌, ◌∙◌, ◌∷◌, ◌≡◌, ◌≤◌, ◌⊎◌}
 use Rattle.std.specs.Prelude.{Contains, IsTrue, codes, map, nat_le, nat_lt, not, slice_get, ◌&&◌, ◌||◌, ◌^◌, ◌≢◌}
 use Rattle.std.specs.List.{AllByRecursion, list_all}
 use Rattle.std.proofs.lemmas.Bool.{and_from, and_parts, both_ways, cases_eq, false_from_ne_true, or_cases}
@@ -25,7 +25,7 @@ use Rattle.lt_storage.specs.Store.{BundleEntry, Delta, Durable, HasBundle, HasBu
 use Rattle.lt_codecs.proofs.ListFacts.{all_append}
 use Rattle.lt_disk.proofs.Written.{bytes_length}
 use Rattle.lt_laws.proofs.DurableFacts.{got_is_held}
-use Rattle.lt_laws.proofs.ListFacts.{all_at}
+use Rattle.lt_laws.proofs.ListFacts.{all_at, contains_front, contains_rest, in_map}
 use Rattle.lt_laws.proofs.LawfulImages.{holds_lawful}
 use Rattle.lt_laws.proofs.OneImage.{greater_than, one_root}
 use Rattle.lt_laws.proofs.ReadLaws.{all_tests}
@@ -93,15 +93,6 @@ slot_unheld image e (inr (is, (r, q, r_is, q_is, r_at, q_at, same))) (d, (l, h))
 
 slot : (image : List ℕ) (e : Extent) → IsDamagedSlot image e → IsDamaged image e
 slot image e h = record { not_a_store = slot_unheld image e h; has_gate = slot_no_store image e h; named = inl h }
-
--- ---- the manifest
-
-manifest : (image : List ℕ) (r : Root) → CountsAsRoot image r → ((m : Manifest) → IsManifest m (bytes_in image (root_extent r)) → ⊥) → IsDamaged image (root_extent r)
-manifest image r counts bad = record {
-  not_a_store = λ (d, (l, h)). bad l.manifest (subst (λ (q : Root). IsManifest l.manifest (bytes_in image (root_extent q))) (one_root image l.root r h.root counts) h.manifest);
-  has_gate = counts_no_store image r counts;
-  named = inr (r, counts, inl (refl, bad));
-}
 
 -- ---- an index
 
@@ -229,6 +220,38 @@ extent image r m is e has all bad = record {
         let same : l ≡ own = one_placing image l own (read_held image b.durable l b.holds) (record { root = has.0; manifest = has.1; indexes = of_reads image m.catalogue m.deltas is all }) in
         none_misplaced m.limit (named_extents r m is) e (subst (λ (k : Placing). IsTrue (are_apart k.manifest.limit (extents_of k))) same b.holds.extents) bad
 
+-- ---- the limit
+
+-- each of the extents that are apart ends within the limit
+ends : (most : ℕ) (xs : List Extent) (e : Extent) → IsTrue (are_apart most xs) → Contains xs e → end_of e ≤ most
+ends most xs e all there = leb-true (end_of e) most (and_parts (nat_le 1024 e.place) (nat_le (end_of e) most) (apart_parts most e [] (alone most xs e all there)).0).1
+
+manifest : (image : List ℕ) (r : Root) → CountsAsRoot image r → ((m : Manifest) → IsManifest m (bytes_in image (root_extent r)) → m.limit < end_of (root_extent r)) → IsDamaged image (root_extent r)
+manifest image r counts bad = record {
+  not_a_store = λ (d, (l, h)).
+      let behind : l.manifest.limit < end_of (root_extent l.root) = subst (λ (q : Root). (m : Manifest) → IsManifest m (bytes_in image (root_extent q)) → m.limit < end_of (root_extent q)) (one_root image r l.root counts h.root) bad l.manifest h.manifest in
+      absurd (omega (arith, behind, ends l.manifest.limit (extents_of l) (root_extent l.root) h.extents (zero, omega arith, refl)));
+  has_gate = counts_no_store image r counts;
+  named = inr (r, counts, inl (refl, bad));
+}
+
+none_readable : (image : List ℕ) (ms : List (ℕ × Extent)) → AreReadable image ms []
+none_readable image [] = refl
+none_readable image (m ∷ ms) = none_readable image ms
+
+beyond : (image : List ℕ) (r : Root) (m : Manifest) (d : ℕ × Extent) → HasManifest image r m → Contains m.deltas d → m.limit < end_of d.1 → IsDamaged image d.1
+beyond image r m d has c far = record {
+  not_a_store = λ store.
+      let b = behind image r m has store in
+      let l = b.placing in
+      absurd (omega (arith, far, ap (λ (n : Manifest). n.limit) b.manifest, ends l.manifest.limit (extents_of l) d.1 b.holds.extents (subst (λ (n : Manifest). Contains (root_extent l.root ∷ (map (λ x. x.1) n.deltas ++ bundle_extents l.indexes)) d.1) (sym b.manifest) (among (root_extent l.root) l.indexes))));
+  has_gate = counts_no_store image r has.0;
+  named = inr (r, has.0, inr (m, has.1, inr (inr ([], none_readable image m.deltas, (among (root_extent r) [], inl (false_from_ne_true (are_apart m.limit (d.1 ∷ [])) (λ is. absurd (omega (arith, far, ends m.limit (d.1 ∷ []) d.1 is (zero, omega arith, refl))))))))));
+}
+  where
+    among : (root : Extent) (is : List (List TableIndex)) → Contains (root ∷ (map (λ x. x.1) m.deltas ++ bundle_extents is)) d.1
+    among root is = contains_rest (root ∷ []) (map (λ x. x.1) m.deltas ++ bundle_extents is) d.1 (contains_front (map (λ x. x.1) m.deltas) (bundle_extents is) d.1 (in_map (λ x. x.1) m.deltas d c))
+
 -- ---- the extents that were read are not empty
 
 abbrev IsFilled : Extent → Type 0
@@ -308,7 +331,7 @@ at_place image r m is e x has all bad c here = by bad.0 c
     ]
 
 pub damage_shows : DamageShows
-damage_shows = record { slot = slot; manifest = manifest; index = index; extent = extent; at_place = at_place; bundle = bundle }
+damage_shows = record { slot = slot; manifest = manifest; index = index; beyond = beyond; extent = extent; at_place = at_place; bundle = bundle }
 
 -- ---- on a sound image none shows
 

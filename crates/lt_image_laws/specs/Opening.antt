@@ -1,5 +1,5 @@
 -- What an opening reads of an image, when it finds damage, and that none shows on a sound image.
-use Rattle.std.specs.Prelude.{Contains, IsTrue, List, Some, [], map, true, ℕ, ◌++◌, ◌∷◌, ◌≡◌}
+use Rattle.std.specs.Prelude.{Contains, IsTrue, List, Some, [], map, true, ℕ, ◌++◌, ◌<◌, ◌∷◌, ◌≡◌}
 use Rattle.lt_terms.specs.declared.Extent.{Extent}
 use Rattle.lt_terms.specs.declared.Root.{Root}
 use Rattle.lt_world.specs.Disk.{bytes_in}
@@ -8,7 +8,7 @@ use Rattle.lt_terms.specs.Log.{Header, Item}
 use Rattle.lt_machine.specs.Machine.{opened}
 use Rattle.lt_machine.specs.Program.{IsOpened, KeepsLows, ReadsAll}
 use Rattle.lt_world.specs.Slots.{IsDamagedSlot}
-use Rattle.lt_world.specs.Extents.{IsMisplaced}
+use Rattle.lt_world.specs.Extents.{IsMisplaced, end_of}
 use Rattle.lt_tables.specs.Pump.{Attaches, IsMismatch}
 use Rattle.lt_machine.specs.Run.{IsBadBundle, IsDamaged, IsDamagedAgain, is_known_index}
 use Rattle.lt_machine.specs.Sound.{Fronts, IsGood, IsSound, SoundPartOf}
@@ -51,10 +51,13 @@ HasManifest image r m = CountsAsRoot image r × IsManifest m (bytes_in image (ro
 pub record DamageShows : Type 0 where
   -- a slot's body, or two slots of one generation
   pub slot : (image : List ℕ) (e : Extent) → IsDamagedSlot image e → IsDamaged image e
-  pub manifest : (image : List ℕ) (r : Root) → CountsAsRoot image r → ((m : Manifest) → IsManifest m (bytes_in image (root_extent r)) → ⊥) → IsDamaged image (root_extent r)
+  -- no manifest stands there that ends within its own limit
+  pub manifest : (image : List ℕ) (r : Root) → CountsAsRoot image r → ((m : Manifest) → IsManifest m (bytes_in image (root_extent r)) → m.limit < end_of (root_extent r)) → IsDamaged image (root_extent r)
   -- an index is not of the grammar, or names a table or layout that the catalogue does not know
   pub index : (image : List ℕ) (r : Root) (m : Manifest) (d : ℕ × Extent) → HasManifest image r m → Contains m.deltas d → ((i : List TableIndex) → IsIndex i (bytes_in image d.1) → is_known_index m.catalogue i ≡ true → ⊥)
       → IsDamaged image d.1
+  -- or it goes on past the limit
+  pub beyond : (image : List ℕ) (r : Root) (m : Manifest) (d : ℕ × Extent) → HasManifest image r m → Contains m.deltas d → m.limit < end_of d.1 → IsDamaged image d.1
   -- an extent meets another one, the slots or the limit
   pub extent : (image : List ℕ) (r : Root) (m : Manifest) (is : List (List TableIndex)) (e : Extent) → HasManifest image r m → ReadsAll image m.catalogue m.deltas is → IsMisplaced m.limit (named_extents r m is) e → IsDamaged image e
   -- of what was read no extent is empty, so each that stands at the place of a misplaced one is misplaced

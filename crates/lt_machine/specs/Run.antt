@@ -10,7 +10,7 @@ use Rattle.lt_terms.specs.declared.Extent.{Extent}
 use Rattle.lt_terms.specs.declared.Root.{Root}
 use Rattle.lt_world.specs.Feed.{Feed, Grows}
 use Rattle.lt_world.specs.Disk.{Rose, bytes_in}
-use Rattle.lt_world.specs.Extents.{IsMisplaced}
+use Rattle.lt_world.specs.Extents.{IsMisplaced, end_of}
 use Rattle.lt_world.specs.Slots.{CountsAsRoot, HasNoStore, IsDamagedSlot}
 use Rattle.lt_tables.specs.Query.{Command, Query, do_compact, do_deltas, do_flush, do_job_begin, do_job_drop, do_job_finish, do_job_step, do_page, do_pump, do_reopen, do_retain, do_retire, do_scan, do_schema, do_split, do_status}
 use Rattle.lt_tables.specs.Pump.{StreamAt, Takes}
@@ -366,11 +366,12 @@ IsDamagedBelow image r m e =
     ⊎ ((d : ℕ × Extent) × (i : List TableIndex) × Contains m.deltas d × IsIndex i (bytes_in image d.1) × IsBadBundle image m.catalogue i e)
     ⊎ ((is : List (List TableIndex)) × AreReadable image m.deltas is × IsMisplaced m.limit (root_extent r ∷ (map (λ d. d.1) m.deltas ++ bundle_extents is)) e)
 
--- An image that is no store names what is damaged in it: a slot, the manifest that counts, or what that manifest leads to.
+-- An image that is no store names what is damaged in it: a slot, the manifest that counts, where none stands there that ends within its own
+-- limit, or what that manifest leads to.
 pub record IsDamaged (image : List ℕ) (e : Extent) : Type 0 where
   pub not_a_store : IsStore image → ⊥
   pub has_gate : HasNoStore image → ⊥
-  pub named : IsDamagedSlot image e ⊎ ((r : Root) × CountsAsRoot image r × (((e ≡ root_extent r) × ((m : Manifest) → IsManifest m (bytes_in image e) → ⊥))
+  pub named : IsDamagedSlot image e ⊎ ((r : Root) × CountsAsRoot image r × (((e ≡ root_extent r) × ((m : Manifest) → IsManifest m (bytes_in image e) → m.limit < end_of e))
       ⊎ ((m : Manifest) × IsManifest m (bytes_in image (root_extent r)) × IsDamagedBelow image r m e)))
 
 -- a reopening also names both slots where no gate is open

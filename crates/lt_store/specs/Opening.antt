@@ -10,7 +10,7 @@ use Rattle.lt_world.specs.Extents.{IsMisplaced, end_of}
 use Rattle.lt_world.specs.Slots.{CountsAsRoot, HasNoStore, IsDamagedSlot}
 use Rattle.lt_storage.specs.Store.{IsIndex, IsLawfulManifest, IsManifest, Manifest, Placing, TableIndex, root_extent}
 use Rattle.lt_machine.specs.Program.{IsOpened, OpensIn, ReadsAll}
-use Rattle.lt_machine.specs.Run.{is_known_index}
+use Rattle.lt_machine.specs.Run.{IsDamaged, is_known_index}
 use Rattle.lt_image_laws.specs.Opening.{HasManifest, named_extents}
 use Rattle.lt_root.specs.declared.refusal.RootRefusal.{RootRefusal}
 use Rattle.lt_root.specs.declared.refusal.RootRefusal.TheVariants as of_root
@@ -70,6 +70,14 @@ RefusesOpening told (refusals.Damaged place len) = IfSome told (λ image. IsFirs
 RefusesOpening told refusals.Unsynced = ⊤
 RefusesOpening told refusals.Unread = ⊤
 RefusesOpening told refusals.Memory = ⊤
+
+-- the damage that a refusal names is there
+abbrev pub NamesDamage : List ℕ → OpenRefusal → Type 0
+NamesDamage image refusals.NoStore = ⊤
+NamesDamage image (refusals.Damaged place len) = IsDamaged image (record { place = place; length = len })
+NamesDamage image refusals.Unsynced = ⊤
+NamesDamage image refusals.Unread = ⊤
+NamesDamage image refusals.Memory = ⊤
 
 -- a refusal by the disk or by memory
 abbrev pub IsNoDamage : OpenRefusal → Type 0

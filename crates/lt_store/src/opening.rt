@@ -11,7 +11,7 @@ ghost use Rattle.lt_machine.specs.Program.{IsOpened, OpensIn};
 ghost use Rattle.lt_machine.specs.Sound.{IsSound};
 ghost use Rattle.lt_delta.specs.Reading.{IsLawful};
 ghost use Rattle.lt_manifest.specs.View.{view_manifest};
-ghost use Rattle.lt_store.specs.Opening.{IsNoDamage, OpensSynced, RefusesOpening, of_disk, of_sync, placing_read};
+ghost use Rattle.lt_store.specs.Opening.{IsNoDamage, NamesDamage, OpensSynced, RefusesOpening, of_disk, of_sync, placing_read};
 ghost use Rattle.lt_store.specs.Standing.{StandsAt};
 
 use crate::extents::{extents_of, space_of};
@@ -43,6 +43,7 @@ pub fn open<D: Disk>(alloc: Global, disk: &mut D) -> Result<Opened, OpenRefusal>
 
     // None is opened, by its cause; the first damage is named. On a sound store only the disk or memory is a cause.
     ensures refused { IfErr result (RefusesOpening (D.state disk.old).told) }
+    ensures damage { IfErr result (λ e. IfSome (D.state disk.old).told (λ image. NamesDamage image e)) }
     ensures complete { IfErr result (λ e. IfSome (D.state disk.old).told (λ image. (f : Feed) → IsSound image f
         → IsNoDamage e)) }
 

@@ -4,8 +4,8 @@ use Rattle.lt_world.specs.Feed.{Feed}
 use Rattle.lt_machine.specs.Program.{OpensIn}
 use Rattle.lt_machine.specs.Sound.{IsSound}
 use Rattle.lt_disk.proofs.Moments.{Device}
-use Rattle.lt_store.specs.Opening.{IsNoDamage}
-use Rattle.lt_store.proofs.FirstDamage.{completes}
+use Rattle.lt_store.specs.Opening.{IsNoDamage, NamesDamage}
+use Rattle.lt_store.proofs.FirstDamage.{completes, names}
 use Rattle.lt_store.proofs.Looking.{stable_on}
 use Rattle.lt_store.proofs.opening.open.Given as given
 use Rattle.lt_store.proofs.opening.open.Goals as goal
@@ -16,6 +16,10 @@ device g = record { state = g.D.Disk.state; counts_now = g.met.D.Disk.counts_now
 at_ok : {T E P : Type 0} (r : Result T E) → P → OnOk r P
 at_ok (Ok x) p = p
 at_ok (Err e) p = tt
+
+pub returns-in-Ok-clause-damage : goal.returns-in-Ok-clause-damage
+returns-in-Ok-clause-damage g c =
+    subst (λ told. IfErr c.open_synced.result (λ e. IfSome told (λ image. NamesDamage image e))) c.sync.ensures.same (names (g.D.Disk.state c.sync.new.self).told c.open_synced.result c.open_synced.ensures.refused)
 
 pub returns-in-Ok-clause-complete : goal.returns-in-Ok-clause-complete
 returns-in-Ok-clause-complete g c =
