@@ -21,10 +21,10 @@ first_is_damage : (image : List ℕ) (e : Extent) → IsFirstDamage image e → 
 first_is_damage image e (in_slots damage) = damage_shows.slot image e damage
 first_is_damage image e (in_manifest r counts named bad) = subst (IsDamaged image) (sym named) (damage_shows.manifest image r counts bad)
 first_is_damage image e (in_index r m has bad) = elim bad.bad [
-  | inl behind ↦ damage_shows.beyond image r m (bad.id, e) has (its_delta image m e bad) behind
-  | inr unknown ↦ damage_shows.index image r m (bad.id, e) has (its_delta image m e bad) unknown
+  | inl behind ↦ damage_shows.beyond image r m (bad.id, e) has.0 (its_delta image m e bad) behind
+  | inr unknown ↦ damage_shows.index image r m (bad.id, e) has.0 (its_delta image m e bad) unknown
 ]
-first_is_damage image e (in_places r m has bad) = damage_shows.extent image r m bad.indexes e has bad.read_all bad.misplaced
+first_is_damage image e (in_places r m has bad) = damage_shows.extent image r m bad.indexes e has.0 bad.read_all bad.misplaced
 
 names_damage : (image : List ℕ) (e : OpenRefusal) → RefusesOpening (Some image) e → NamesDamage image e
 names_damage image refusals.NoStore refused = tt

@@ -1,5 +1,5 @@
 -- What an opening reads, and why a store is not opened.
-use Rattle.std.specs.Prelude.{Contains, IfErr, IfOk, IfSome, List, Option, [], map, true, ⊤, ℕ, ◌++◌, ◌-◌, ◌<◌, ◌∷◌, ◌≡◌, ◌≤◌, ◌⊎◌}
+use Rattle.std.specs.Prelude.{Contains, IfErr, IfOk, IfSome, List, Option, [], false, map, true, ⊤, ℕ, ◌++◌, ◌-◌, ◌<◌, ◌∷◌, ◌≡◌, ◌≤◌, ◌⊎◌}
 use Rattle.std.specs.List.{AllByRecursion}
 use Rattle.std.specs.declared.result.Result.{Result}
 use Rattle.std.specs.declared.result.Result.TheVariants.{Err, Ok}
@@ -20,6 +20,7 @@ use Rattle.lt_delta.specs.View.{view_index}
 use Rattle.lt_delta.specs.declared.refusal.DeltaRefusal.{DeltaRefusal}
 use Rattle.lt_delta.specs.declared.refusal.DeltaRefusal.TheVariants as of_delta
 use Rattle.lt_manifest.specs.View.{view_manifest}
+use Rattle.lt_manifest.specs.declared.stored.Manifest as code
 use Rattle.lt_store.specs.Standing.{StandsAt}
 use Rattle.lt_store.specs.declared.opening.Opened.{Opened}
 use Rattle.lt_store.specs.declared.refusal.OpenRefusal.{OpenRefusal}
@@ -56,12 +57,16 @@ pub record IsLeastMisplaced (image : List ℕ) (r : Root) (m : Manifest) (e : Ex
   pub misplaced : IsMisplaced m.limit (named_extents r m indexes) e
   pub least : (x : Extent) → IsMisplaced m.limit (named_extents r m indexes) x → e.place ≤ x.place
 
+-- the manifest that counts, which ends within its own limit
+abbrev pub FitsManifest : List ℕ → Root → Manifest → Type 0
+FitsManifest image r m = HasManifest image r m × (end_of (root_extent r) ≤ m.limit)
+
 -- the first damage that an opening finds: in the slots, in the manifest, in the indexes in their order, or in where all that stands
 pub data IsFirstDamage (image : List ℕ) (e : Extent) : Type 0 where
   in_slots : IsDamagedSlot image e → IsFirstDamage image e
   in_manifest : (r : Root) → CountsAsRoot image r → e ≡ root_extent r → HasBadManifest image r → IsFirstDamage image e
-  in_index : (r : Root) (m : Manifest) → HasManifest image r m → IsFirstBadIndex image m e → IsFirstDamage image e
-  in_places : (r : Root) (m : Manifest) → HasManifest image r m → IsLeastMisplaced image r m e → IsFirstDamage image e
+  in_index : (r : Root) (m : Manifest) → FitsManifest image r m → IsFirstBadIndex image m e → IsFirstDamage image e
+  in_places : (r : Root) (m : Manifest) → FitsManifest image r m → IsLeastMisplaced image r m e → IsFirstDamage image e
 
 -- why a store is not opened; a fault of the disk has its cause in the disk's counts, and out of memory is always allowed
 abbrev pub RefusesOpening : Option (List ℕ) → OpenRefusal → Type 0
@@ -132,6 +137,10 @@ pub record HurtsManifest (told : Option (List ℕ)) (r : Root) (e : Extent) : Ty
   pub named : e ≡ root_extent r
   pub bad : IfSome told (λ image. HasBadManifest image r)
 
+-- a manifest that stands behind the root, and ends within its own limit
+abbrev pub ReadsManifest : List ℕ → Root → code.Manifest → Type 0
+ReadsManifest image r m = IsManifest (view_manifest m) (bytes_in image (root_extent r)) × (end_of (root_extent r) ≤ m.limit)
+
 -- no good index stands there
 pub record HurtsIndex (told : Option (List ℕ)) (m : Manifest) (at e : Extent) : Type 0 where
   pub named : e ≡ at
@@ -150,6 +159,7 @@ pub record MeetsFirst (limit : ℕ) (live : List Extent) (e : Extent) : Type 0 w
 pub record OpensSynced (old new : DiskState) (result : Result Opened OpenRefusal) : Type 0 where
   pub opened : IfOk result (λ o. IfSome old.told (λ image. IsOpened image (placing_read o)))
   pub stands : IfOk result (λ o. StandsAt o.store (placing_read o) [])
+  pub whole : IfOk result (λ o. o.store.broken ≡ false)
   pub lawful : IfOk result (λ o. IsLawfulManifest (view_manifest o.manifest) × AllByRecursion IsLawful (placing_read o).indexes)
   pub refused : IfErr result (RefusesOpening old.told)
   pub images : LeftOnly old new old.leaves

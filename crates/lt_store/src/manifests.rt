@@ -9,7 +9,7 @@ ghost use Rattle.lt_storage.specs.Store as store;
 ghost use Rattle.lt_storage.specs.Store.{IsLawfulManifest, IsManifest, root_extent};
 ghost use Rattle.lt_manifest.specs.View.{view_manifest};
 ghost use Rattle.lt_store.specs.Looking.{LooksOnly};
-ghost use Rattle.lt_store.specs.Opening.{HurtsManifest, RefusesStep, of_disk};
+ghost use Rattle.lt_store.specs.Opening.{HurtsManifest, ReadsManifest, RefusesStep, of_disk};
 ghost use Rattle.lt_store.specs.declared.refusal.OpenRefusal.TheVariants as refusals;
 
 use crate::refusal::OpenRefusal;
@@ -50,8 +50,7 @@ pub fn read_manifest<D: Disk>(
     disk: &mut D,
     root: &Root,
 ) -> Result<Manifest, OpenRefusal>
-    ensures read { IfOk result (λ m. IfSome (D.state disk.old).told
-        (λ image. IsManifest (view_manifest m) (bytes_in image (root_extent root.now)))) }
+    ensures read { IfOk result (λ m. IfSome (D.state disk.old).told (λ image. ReadsManifest image root.now m)) }
     ensures lawful { IfOk result (λ m. IsLawfulManifest (view_manifest m)) }
     ensures refused { IfErr result (RefusesStep (HurtsManifest (D.state disk.old).told root.now)) }
     ensures looks { LooksOnly 2 (D.state disk.old) (D.state disk.new) }

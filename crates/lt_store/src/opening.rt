@@ -1,7 +1,7 @@
 //! The opening of a store. It begins with a sync, and makes three reads and one for each delta. Damage is looked for in the order of
 //! the reading: in the slots, in the manifest, in each index, and last in where all these and the bundles stand.
 
-ghost use Rattle.std.specs.Prelude.{◌≡◌, ◌-◌, [], IfErr, IfOk, IfSome, OnOk};
+ghost use Rattle.std.specs.Prelude.{◌≡◌, ◌-◌, [], IfErr, IfOk, IfSome, OnOk, false};
 ghost use Rattle.std.specs.List.{AllByRecursion};
 ghost use Rattle.lt_world.specs.Disk.{DiskGoes, HasCause, LeftOnly};
 ghost use Rattle.lt_world.specs.Feed.{Feed};
@@ -40,6 +40,7 @@ pub fn open<D: Disk>(alloc: Global, disk: &mut D) -> Result<Opened, OpenRefusal>
     ensures stands { IfOk result (λ o. StandsAt o.store (placing_read o) []) }
     ensures lawful { IfOk result (λ o. IsLawfulManifest (view_manifest o.manifest)
         × AllByRecursion IsLawful (placing_read o).indexes) }
+    ensures whole { IfOk result (λ o. o.store.broken ≡ false) }
 
     // None is opened, by its cause; the first damage is named. On a sound store only the disk or memory is a cause.
     ensures refused { IfErr result (RefusesOpening (D.state disk.old).told) }

@@ -1,4 +1,4 @@
-use Rattle.std.proofs.Common.{ap, subst, sym, ◌∙◌}
+use Rattle.std.proofs.Common.{ap, false, refl, subst, sym, ◌∙◌, ◌≡◌}
 use Rattle.std.specs.Prelude.{IfSome, map}
 use Rattle.lt_disk.proofs.Moments.{Device}
 use Rattle.lt_machine.specs.Program.{ReadsAll}
@@ -102,5 +102,6 @@ returns g c =
     let all = c.in_ok-indexes.ensures in
     let reads = subst (λ told. IfSome told (λ image. ReadsAll image m.catalogue (view_manifest m).deltas (map view_index is))) was.looks.told all.read in
     let named = c.deref-2.ensures.value ∙ c.in_ok-live.ensures ∙ ap (λ xs. named_extents r (view_manifest m) (map view_index xs)) c.deref.ensures.value in
+    let whole : false ≡ false = refl in
     opens old now _ c.deref-2.result.now (looks_behind v c.args.disk.now c.read_manifest.new.disk c.read_indexes.new.disk r m was all.looks) (all.cause.kept ∙ was.faults) was.has reads read.lawful all.lawful named
-    c.in_ok-space.ensures.apart c.in_ok-space.ensures.taken c.in_ok-space.ensures.limit
+    c.in_ok-space.ensures.apart c.in_ok-space.ensures.taken c.in_ok-space.ensures.limit whole
