@@ -1,15 +1,16 @@
 -- The statuses that a run ends with, and why.
 use Rattle.std.proofs.Common.{ℕ, List, refl, arith, inl, inr, subst, sym, ◌∙◌, ◌≡◌, true}
 use Rattle.std.proofs.lemmas.Bool.{false≢true}
-use Rattle.std.specs.Prelude.{Bool, Err, IsTrue, MatchResult, Ok, Result, false, is_err, ◌&&◌, ◌⊎◌}
+use Rattle.std.specs.Prelude.{Bool, Err, IfErr, IsTrue, MatchResult, Ok, OnOk, Result, false, is_err, ◌&&◌, ◌⊎◌}
+use Rattle.std.specs.Result.{IsErrAnd}
 use Rattle.lt_world.specs.Disk.{Rose}
 use Rattle.lt_world.specs.Object.{BytesState, FailsAt}
 use Rattle.lt_machine.specs.Program.{IsCut}
-use Rattle.lightning_cli.specs.Serving.{Finishes, ScriptOver, Unfailed}
+use Rattle.lightning_cli.specs.Serving.{Finishes, OutOver, ScriptOver, Unfailed}
 use Rattle.lightning_cli.specs.Turns.{take_status}
 use Rattle.lightning_cli.specs.declared.server.TakeFault.{TakeFault}
 use Rattle.lightning_cli.specs.declared.server.TakeFault.TheVariants as faults
-use Rattle.lightning_cli.proofs.OutLaws.{unfailed_then}
+use Rattle.lightning_cli.proofs.OutLaws.{err_as, out_kept, unfailed_itself, unfailed_then}
 
 -- ---- results
 
@@ -20,6 +21,11 @@ err_side P (Err e) h k = k
 pub ok_side : {T E : Type 0} {P : Type 0} (Q : Type 0) (r : Result T E) → is_err r ≡ false → MatchResult r (λ _. P) (λ _. Q) → P
 ok_side Q (Ok x) h k = k
 ok_side Q (Err e) h k = absurd (false≢true (sym h))
+
+-- a fault leaves nothing to show of what was done
+pub err_ok : {T E : Type 0} (P : Type 0) (r : Result T E) (F : E → Type 0) → IsErrAnd r F → OnOk r P
+err_ok P (Ok x) F h = absurd h
+err_ok P (Err e) F h = tt
 
 pub second_holds : (a b : Bool) → IsTrue (a && b) → b ≡ true
 second_holds true b h = h
@@ -38,6 +44,14 @@ cuts faults.Sink = inl refl
 pub cut_status : (fault : TakeFault) → (take_status fault ≡ 4) ⊎ (take_status fault ≡ 10)
 cut_status faults.Memory = inr refl
 cut_status faults.Sink = inl refl
+
+-- where memory ran out the output is as it was
+pub lost_over : {T : Type 0} (a : BytesState) (r : Result T TakeFault) → IsErrAnd r (λ e. e ≡ faults.Memory) → IfErr r (λ e. OutOver a a (take_status e))
+lost_over a r h = err_as (λ e. OutOver a a (take_status e)) r faults.Memory h (out_kept a a 10 (λ e. absurd (omega (arith, e))) (unfailed_itself a))
+
+-- a fault that is passed on
+pub over_by : {T : Type 0} (a b : BytesState) (fault : TakeFault) (r : Result T TakeFault) → IsErrAnd r (λ e. e ≡ fault) → OutOver a b (take_status fault) → IfErr r (λ e. OutOver a b (take_status e))
+over_by a b fault r h over = err_as (λ e. OutOver a b (take_status e)) r fault h over
 
 pub finish_status : (a b : BytesState) (line : List ℕ) (status result : ℕ) → Finishes a b line status result → (result ≡ status) ⊎ (result ≡ 4)
 finish_status a b line status result (inl x) = inl x.0

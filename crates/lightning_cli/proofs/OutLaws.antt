@@ -1,14 +1,16 @@
 -- What calls append to a sink, one after another.
-use Rattle.std.proofs.lemmas.List.{take-take}
+use Rattle.std.proofs.lemmas.Bool.{false≢true}
+use Rattle.std.proofs.lemmas.List.{append_cancel_left, take-take}
 use Rattle.std.proofs.Common.{inl, inr, take-append-drop, false, subst, true, ◌≡◌, ℕ, ◌+◌, ◌<◌, ◌^◌, ◌≤◌, length, length-append, List, [], ◌∷◌, ◌++◌, take, drop, refl, sym, ap, ◌∙◌, append_assoc, append-nil, arith}
 use Rattle.std.proofs.lemmas.Fmt.{decimal_digit}
 use Rattle.lt_world.specs.Object.{BytesGo, BytesState, FailsAt, StaysTold}
 use Rattle.lt_words.specs.Reply.{text_line}
 use Rattle.lt_machine.specs.Run.{max_script, script_fault_text, too_long_text}
-use Rattle.std.specs.Prelude.{Err, IfErr, IfSome, MatchResult, codes, None, Ok, Option, Result, Some}
+use Rattle.std.specs.Prelude.{Bool, Err, IfErr, IfSome, MatchResult, codes, None, Ok, Option, Result, Some, is_some, option_map}
 use Rattle.std.specs.Result.{IsErrAnd}
 use Rattle.std.specs.Io.KnownBytes.{Appends, Consumes, IsAtEnd, Keeps}
-use Rattle.lightning_cli.specs.Serving.{Failed, Finishes, IsTaken, OutOver, Unfailed}
+use Rattle.lightning_cli.specs.Rows.{LeadsOut}
+use Rattle.lightning_cli.specs.Serving.{AppendsFront, Failed, Finishes, IsTaken, OutOver, Unfailed, WritesSome}
 
 pub appends_nothing : (o : Option (List ℕ)) → Appends o o []
 appends_nothing None = tt
@@ -91,12 +93,41 @@ unfailed_then a b c h k = record { faults = k.faults ∙ h.faults; failed_at = k
 pub failed_then : (a b c : BytesState) → Unfailed a b → Failed b c → Failed a c
 failed_then a b c h k = record { rose = omega (arith, h.faults, k.rose); stops = subst (λ x. FailsAt c.told x c.failed_at) h.failed_at k.stops }
 
+-- some of a text was written, and none of it is left
+pub all_poured : (o p : Option (List ℕ)) (text kept : List ℕ) → kept ≡ [] → WritesSome o p text kept → Appends o p text
+all_poured o p text kept none h = subst (Appends o p) (sym (h.2 ∙ ap (λ x. h.0 ++ x) none ∙ append-nil h.0)) h.1
+
+pub front_poured : (o p : Option (List ℕ)) (text kept : List ℕ) → WritesSome o p text kept → AppendsFront o p text
+front_poured o p text kept h = (h.0, (kept, h.2), h.1)
+
+-- bytes behind a text, of which some first ones are written and the others kept
+pub row_poured : (o p : Option (List ℕ)) (text line all kept : List ℕ) → all ≡ text ++ line → WritesSome o p all kept → Appends (option_map (λ held. held ++ text) o) (option_map (λ held. held ++ kept) p) line
+row_poured None p text line all kept e h = tt
+row_poured (Some a) None text line all kept e h = absurd h.1
+row_poured (Some a) (Some b) text line all kept e h = ap (λ x. x ++ kept) h.1 ∙ append_assoc a h.0 kept ∙ ap (λ x. a ++ x) (sym h.2 ∙ e) ∙ sym (append_assoc a text line)
+
+-- what was written, by what is told with the kept text behind it
+pub rows_written : (o p : Option (List ℕ)) (text kept part more : List ℕ) → is_some o ≡ true → Appends o p more → Appends (option_map (λ held. held ++ text) o) (option_map (λ held. held ++ kept) p) part → text ++ part ≡ more ++ kept
+rows_written None p text kept part more told h k = absurd (false≢true told)
+rows_written (Some a) None text kept part more told h k = absurd h
+rows_written (Some a) (Some b) text kept part more told h k =
+    append_cancel_left a (text ++ part) (more ++ kept) (sym (append_assoc a text part) ∙ sym k ∙ ap (λ x. x ++ kept) h ∙ append_assoc a more kept)
+
 -- an output that did not fail, or failed
 pub out_kept : (a b : BytesState) (status : ℕ) → (status ≡ 4 → ⊥) → Unfailed a b → OutOver a b status
 out_kept a b status other h = record { failed = λ e. absurd (other e); kept = λ n. h }
 
 pub out_failed : (a b : BytesState) (status : ℕ) → status ≡ 4 → Failed a b → OutOver a b status
 out_failed a b status is h = record { failed = λ e. h; kept = λ n. absurd (n is) }
+
+-- rows led an output on, to a fault or without one
+pub fell_over : (a b : BytesState) (fault : Bool) → fault ≡ true → LeadsOut a b fault → OutOver a b 4
+fell_over a b true is h = out_failed a b 4 refl h.fails
+fell_over a b false is h = absurd (false≢true is)
+
+pub led_unfailed : (a b : BytesState) (fault : Bool) → fault ≡ false → LeadsOut a b fault → Unfailed a b
+led_unfailed a b true is h = absurd (false≢true (sym is))
+led_unfailed a b false is h = h.fails
 
 pub out_finishes : (a b : BytesState) (line : List ℕ) (status result : ℕ) → (status ≡ 4 → ⊥) → Finishes a b line status result → OutOver a b result
 out_finishes a b line status result other (inl x) = out_kept a b result (λ e. other (sym x.0 ∙ e)) x.2

@@ -1,7 +1,7 @@
 -- A run goes on line by line.
 use Rattle.std.proofs.lemmas.List.{length-take, length-take-le, take-append-le}
 use Rattle.std.proofs.Common.{drop, inl, inr, take-append-drop, length-append, ltb-false, ltb-true, take_all, ◌≡◌, ℕ, ◌+◌, ◌<◌, ◌≤◌, Bool, true, false, List, [], ◌∷◌, ◌++◌, length, take, refl, sym, ap, ◌∙◌, subst, arith, append_assoc, append-nil}
-use Rattle.std.specs.Prelude.{Result, nat_lt, ◌==◌, ◌⊎◌, min}
+use Rattle.std.specs.Prelude.{Err, MatchResult, Ok, Option, Result, nat_lt, ◌==◌, ◌⊎◌, min}
 use Rattle.lt_world.specs.Disk.{DiskState}
 use Rattle.lt_words.specs.Lines.{line_read}
 use Rattle.lt_machine.specs.InMemory.{on_memory}
@@ -73,15 +73,37 @@ bad_runs {start} {lines} {written} {d} {f} {replica} {replies} line more e m h =
     subst (λ r. HasRun start (lines ++ line ∷ []) written d f replica r) (sym m)
     (quiet_line start lines written d f replica replies line bad_line_text h (subst (λ x. LineRunsAs on_memory.cause last x (record last { text = bad_line_text })) (sym e) (refl, refl, refl)))
 
-pub command_runs : {E : Type 0} {start : Moment} {lines : List (List ℕ)} {written : List ℕ} {d d' : DiskState} {f f' : FeedState} {replica replica' : Replica} {replies : List ℕ} {out : Result (List ℕ) E} (line : List ℕ) (c : Command)
-    → line_read line ≡ spells_command c → (h : HasRun start lines written d f replica replies) → (a : HasAnswered start (last_moment start h.moments) c d' f' replica' out) → HasRun start (lines ++ line ∷ []) written d' f' replica' (replies ++ a.next.text)
-command_runs {E} {start} {lines} {written} {d} {d'} {f} {f'} {replica} {replica'} {replies} line c e h a =
-    more_run start lines written d d' f f' replica replica' replies line a.next h
-    (record { grows = a.grows; runs = subst (λ x. LineRunsAs on_memory.cause (last_moment start h.moments) x a.next) (sym e) a.runs }) a.now a.stands
+-- of what was to be written some is, and the rest is kept
+pub run_shift : {start : Moment} {lines : List (List ℕ)} {written : List ℕ} {d : DiskState} {f : FeedState} {replica : Replica} {replies : List ℕ} (more rest : List ℕ)
+    → replies ≡ more ++ rest → HasRun start lines written d f replica replies → HasRun start lines (written ++ more) d f replica rest
+run_shift {start} {lines} {written} {d} {f} {replica} {replies} more rest e h = record {
+  moments = h.moments;
+  runs = h.runs;
+  now = h.now;
+  stands = h.stands;
+  text = h.text ∙ ap (λ r. written ++ r) e ∙ sym (append_assoc written more rest);
+}
+
+pub command_runs : {T E : Type 0} {start : Moment} {lines : List (List ℕ)} {written : List ℕ} {d d' : DiskState} {f f' : FeedState} {replica replica' : Replica} {replies kept : List ℕ} {held held' : Option (List ℕ)} {out : Result T E} (line : List ℕ)
+    (c : Command) → line_read line ≡ spells_command c → (h : HasRun start lines written d f replica replies) → (a : HasAnswered start (last_moment start h.moments) c d' f' replica' held held' replies kept out)
+    → HasRun start (lines ++ line ∷ []) (written ++ a.more) d' f' replica' a.rest
+command_runs {T} {E} {start} {lines} {written} {d} {d'} {f} {f'} {replica} {replica'} {replies} line c e h a =
+    run_shift a.more a.rest a.text (more_run start lines written d d' f f' replica replica' replies line a.leads.next h
+    (record { grows = a.leads.grows; runs = subst (λ x. LineRunsAs on_memory.cause (last_moment start h.moments) x a.leads.next) (sym e) a.leads.runs }) a.leads.now a.leads.stands)
 
 pub run_replies : {start : Moment} {lines : List (List ℕ)} {written : List ℕ} {d : DiskState} {f : FeedState} {replica : Replica} {replies : List ℕ} (now : List ℕ)
     → replies ≡ now → HasRun start lines written d f replica replies → HasRun start lines written d f replica now
 run_replies {start} {lines} {written} {d} {f} {replica} now e h = subst (λ x. HasRun start lines written d f replica x) e h
+
+pub run_to : {start : Moment} {lines : List (List ℕ)} {written : List ℕ} {d : DiskState} {f : FeedState} {replica : Replica} {replies : List ℕ} → HasRun start lines written d f replica replies → HasRunTo start lines written d f
+run_to {start} {lines} {written} {d} {f} {replica} {replies} h = record { moments = h.moments; runs = h.runs; now = h.now; front = (replies, h.text) }
+
+-- a command was answered, or the run ends in it
+pub command_ends : {T E : Type 0} {start : Moment} {lines : List (List ℕ)} {written : List ℕ} {d d' : DiskState} {f f' : FeedState} {replica replica' : Replica} {replies kept : List ℕ} {held held' : Option (List ℕ)} (out : Result T E) (line : List ℕ)
+    (c : Command) → line_read line ≡ spells_command c → (h : HasRun start lines written d f replica replies) → (a : HasAnswered start (last_moment start h.moments) c d' f' replica' held held' replies kept out)
+    → MatchResult out (λ _. HasRun start (lines ++ line ∷ []) (written ++ a.more) d' f' replica' kept) (λ _. HasRunTo start lines (written ++ a.more) d' f' ⊎ HasRunTo start (lines ++ line ∷ []) (written ++ a.more) d' f')
+command_ends (Ok x) line c e h a = run_replies _ (sym a.left) (command_runs line c e h a)
+command_ends (Err x) line c e h a = inr (run_to (command_runs line c e h a))
 
 -- ---- where a run is broken off
 
@@ -93,9 +115,6 @@ run_front {start} {lines} {written} front begins h = record {
   now = h.now;
   front = (begins.0, h.text ∙ ap (λ x. written ++ x) begins.1 ∙ sym (append_assoc written front begins.0));
 }
-
-pub run_to : {start : Moment} {lines : List (List ℕ)} {written : List ℕ} {d : DiskState} {f : FeedState} {replica : Replica} {replies : List ℕ} → HasRun start lines written d f replica replies → HasRunTo start lines written d f
-run_to {start} {lines} {written} {d} {f} {replica} {replies} h = record { moments = h.moments; runs = h.runs; now = h.now; front = (replies, h.text) }
 
 pub to_some : {start : Moment} {written : List ℕ} {d : DiskState} {f : FeedState} (part bytes : List ℕ) → IsFront part bytes → HasRunTo start (lines_ended part) written d f → HasRunSome start bytes written d f
 to_some part bytes begins h = record { part = part; begins = begins; run = h }
@@ -162,6 +181,9 @@ kept_full line b kept e long =
 
 -- ---- the same by another name
 
+pub thrice : (w a b c : List ℕ) → ((w ++ a) ++ b) ++ c ≡ w ++ (a ++ (b ++ c))
+thrice w a b c = append_assoc (w ++ a) b c ∙ append_assoc w a (b ++ c)
+
 pub stands_at : {start : Moment} {written now : List ℕ} {d : DiskState} {f : FeedState} {s : Server} (before bytes : List ℕ) → before ≡ bytes → written ≡ now → Stands start before written d f s → Stands start bytes now d f s
 stands_at {start} {written} {now} {d} {f} {s} before bytes e h x = subst (λ b. Stands start b now d f s) e (subst (λ w. Stands start before w d f s) h x)
 
@@ -169,12 +191,6 @@ stands_at {start} {written} {now} {d} {f} {s} before bytes e h x = subst (λ b. 
 pub flushed : {start : Moment} {bytes written : List ℕ} {d : DiskState} {f : FeedState} (s t : Server) (first : List ℕ) → t.replica ≡ s.replica → t.line.items ≡ s.line.items → s.replies.items ≡ first ++ t.replies.items
     → Stands start bytes written d f s → Stands start bytes (written ++ first) d f t
 flushed {start} {bytes} {written} {d} {f} s t first same line replies h = record {
-  run = subst (λ r. HasRun start (lines_ended bytes) (written ++ first) d f r t.replies.items) (sym same) (record {
-    moments = h.run.moments;
-    runs = h.run.runs;
-    now = h.run.now;
-    stands = h.run.stands;
-    text = h.run.text ∙ ap (λ r. written ++ r) replies ∙ sym (append_assoc written first t.replies.items);
-  });
+  run = subst (λ r. HasRun start (lines_ended bytes) (written ++ first) d f r t.replies.items) (sym same) (run_shift first t.replies.items replies h.run);
   line = line ∙ h.line;
 }

@@ -131,36 +131,38 @@ all_run m bytes script ms e r = subst (λ ls. Runs run_rules m ls ms) (sym (all_
 few_bytes : (script bytes : List ℕ) (count : ℕ) → script ≡ bytes → length bytes ≡ count → count ≤ max_script → length script ≤ max_script
 few_bytes script bytes count e n short = omega (arith, n, short, ap length e)
 
--- the last line found no memory
-pub last_lacks : (m : Moment) (old : Told) (d d' : DiskState) (f f' : FeedState) (x o : BytesState) (count : ℕ) (server : Server) → x.told ≡ Some [] → count ≤ max_script → (s : IsServing m old (outside_of d f x o) count [] server) → FeedGoes f f'
-    → HasRunTo m (lines_ended s.bytes) s.written d' f' ⊎ HasRunTo m (lines_ended s.bytes ++ open_line s.bytes ∷ []) s.written d' f' → HasServed m old (outside_of d' f' x o) 10
-last_lacks m old d d' f f' x o count server at_end short s feed h =
-    let u = told_after d d' f f' x o o s.now s.tells feed (record { stays = (λ z. z, λ z. z); faults = omega arith }) in
+-- the run ends in the last line
+pub last_lacks : (m : Moment) (old : Told) (d d' : DiskState) (f f' : FeedState) (x o o' : BytesState) (count : ℕ) (server : Server) (status : ℕ) → IsCut status → x.told ≡ Some [] → count ≤ max_script → (s : IsServing m old (outside_of d f x o) count [] server) → FeedGoes f f' → BytesGo o o' → (p : List ℕ)
+    → Appends o.told o'.told p → HasRunTo m (lines_ended s.bytes) (s.written ++ p) d' f' ⊎ HasRunTo m (lines_ended s.bytes ++ open_line s.bytes ∷ []) (s.written ++ p) d' f' → HasServed m old (outside_of d' f' x o') status
+last_lacks m old d d' f f' x o o' count server status cut at_end short s feed out p a h =
+    let u = told_after d d' f f' x o o' s.now s.tells feed out in
     let none : s.now.script ≡ [] = told_same x.told [] s.now.script at_end s.tells.script in
     let whole : old.script ≡ s.bytes = s.took ∙ ap (λ z. s.bytes ++ z) none ∙ append-nil s.bytes in
     let took : old.script ≡ s.bytes ++ u.0.script = s.took ∙ ap (λ z. s.bytes ++ z) (sym u.2) in
-    let wrote : u.0.written ≡ old.written ++ s.written = told_same o.told s.now.written u.0.written s.tells.written u.1.written ∙ s.wrote in
+    let wrote : u.0.written ≡ old.written ++ (s.written ++ p) = wrote_more old.written s.now.written s.written u.0.written p p s.wrote (appended o.told o'.told s.now.written u.0.written p s.tells.written u.1.written a) refl in
     let few : length s.bytes ≤ max_script = omega (arith, s.number, short) in
     elim h [
-      | inl r ↦ served m old u.0 (outside_of d' f' x o) s.bytes s.written r.moments 10 u.1 took wrote r.now (omega (arith, s.script)) (omega (arith, s.out))
-          (ended_early (inr refl) (in_replies s.bytes ([], sym (append-nil s.bytes)) few r.runs r.front))
-      | inr r ↦ served m old u.0 (outside_of d' f' x o) s.bytes s.written r.moments 10 u.1 took wrote r.now (omega (arith, s.script)) (omega (arith, s.out))
-          (ended_early (inr refl) (in_last_line (sym whole) (few_bytes old.script s.bytes count whole s.number short) (all_run m s.bytes old.script r.moments whole r.runs) r.front))
+      | inl r ↦ served m old u.0 (outside_of d' f' x o') s.bytes (s.written ++ p) r.moments status u.1 took wrote r.now (omega (arith, s.script)) (omega (arith, s.out, out.faults))
+          (ended_early cut (in_replies s.bytes ([], sym (append-nil s.bytes)) few r.runs r.front))
+      | inr r ↦ served m old u.0 (outside_of d' f' x o') s.bytes (s.written ++ p) r.moments status u.1 took wrote r.now (omega (arith, s.script)) (omega (arith, s.out, out.faults))
+          (ended_early cut (in_last_line (sym whole) (few_bytes old.script s.bytes count whole s.number short) (all_run m s.bytes old.script r.moments whole r.runs) r.front))
     ]
 
 -- all lines were answered
-pub all_served : (m : Moment) (old : Told) (d d' : DiskState) (f f' : FeedState) (x o o' : BytesState) (count : ℕ) (server : Server) (replica : Replica) (replies : List ℕ) (result : ℕ) → x.told ≡ Some [] → count ≤ max_script
-    → (s : IsServing m old (outside_of d f x o) count [] server) → FeedGoes f f' → HasRun m (lines_ended s.bytes ++ open_line s.bytes ∷ []) s.written d' f' replica replies → Finishes o o' replies 0 result → BytesGo o o' → HasServed m old (outside_of d' f' x o') result
-all_served m old d d' f f' x o o' count server replica replies result at_end short s feed h finishes goes =
-    let u = told_after d d' f f' x o o s.now s.tells feed (record { stays = (λ z. z, λ z. z); faults = omega arith }) in
+pub all_served : (m : Moment) (old : Told) (d d' : DiskState) (f f' : FeedState) (x o mid o' : BytesState) (count : ℕ) (server : Server) (replica : Replica) (replies : List ℕ) (result : ℕ) → x.told ≡ Some [] → count ≤ max_script
+    → (s : IsServing m old (outside_of d f x o) count [] server) → FeedGoes f f' → BytesGo o mid → mid.faults ≡ o.faults → (p : List ℕ) → Appends o.told mid.told p → HasRun m (lines_ended s.bytes ++ open_line s.bytes ∷ []) (s.written ++ p) d' f' replica replies
+    → Finishes mid o' replies 0 result → BytesGo mid o' → HasServed m old (outside_of d' f' x o') result
+all_served m old d d' f f' x o mid o' count server replica replies result at_end short s feed out kept p a h finishes goes =
+    let u = told_after d d' f f' x o mid s.now s.tells feed out in
     let none : s.now.script ≡ [] = told_same x.told [] s.now.script at_end s.tells.script in
     let whole : old.script ≡ s.bytes = s.took ∙ ap (λ z. s.bytes ++ z) none ∙ append-nil s.bytes in
     let few = few_bytes old.script s.bytes count whole s.number short in
     let runs = all_run m s.bytes old.script h.moments whole h.runs in
-    finished m old u.0 d' f' x o o' s.bytes s.written replies h.moments 0 result u.1 finishes goes (s.took ∙ ap (λ z. s.bytes ++ z) (sym u.2))
-    (told_same o.told s.now.written u.0.written s.tells.written u.1.written ∙ s.wrote) h.now (omega (arith, s.script)) (omega (arith, s.out))
+    let written = s.written ++ p in
+    finished m old u.0 d' f' x mid o' s.bytes written replies h.moments 0 result u.1 finishes goes (s.took ∙ ap (λ z. s.bytes ++ z) (sym u.2))
+    (wrote_more old.written s.now.written s.written u.0.written p p s.wrote (appended o.told mid.told s.now.written u.0.written p s.tells.written u.1.written a) refl) h.now (omega (arith, s.script)) (omega (arith, s.out, kept))
     (all_answered refl (sym whole) few runs (sym h.text))
-    (λ front begins. ended_early (inl refl) (in_last_line (sym whole) few runs (begins.0, h.text ∙ ap (λ z. s.written ++ z) begins.1 ∙ sym (append_assoc s.written front begins.0))))
+    (λ front begins. ended_early (inl refl) (in_last_line (sym whole) few runs (begins.0, h.text ∙ ap (λ z. written ++ z) begins.1 ∙ sym (append_assoc written front begins.0))))
 
 -- ---- a script that fails
 

@@ -1,5 +1,6 @@
 -- What a command leads to, and the version that its rows are read by.
-use Rattle.std.specs.Prelude.{IfOk, List, Option, Result, Some, option_and_then, option_map, ℕ, ◌≡◌}
+use Rattle.std.specs.Prelude.{List, OnOk, Option, Result, Some, option_and_then, option_map, ℕ, ◌++◌, ◌≡◌}
+use Rattle.std.specs.Io.KnownBytes.{Appends}
 use Rattle.lt_world.specs.Disk.{DiskState}
 use Rattle.lt_world.specs.Feed.{Grows}
 use Rattle.lt_machine.specs.InMemory.{in_memory, on_memory}
@@ -36,11 +37,20 @@ pub record StandsIn (d : DiskState) (m : Moment) (replica : Replica) : Type 0 wh
   pub stands : StandsFor replica m.session
   pub serves : Serves on_memory d m.feed m.session
 
--- A command led from a moment to one that is now, in which the replica stands. What is given is its text.
-pub record HasAnswered {E : Type 0} (start m : Moment) (c : Command) (d : DiskState) (f : FeedState) (replica : Replica) (result : Result (List ℕ) E) : Type 0 where
+-- A command led from a moment to one that is now, in which the replica stands.
+pub record Leads (start m : Moment) (c : Command) (d : DiskState) (f : FeedState) (replica : Replica) : Type 0 where
   pub next : Moment
   pub grows : Grows m.feed next.feed
   pub runs : CommandRuns on_memory.cause m c next
   pub now : IsNow d f start next
   pub stands : StandsIn d next replica
-  pub text : IfOk result (λ text. text ≡ next.text)
+
+-- It was answered behind a text that was collected: some of all this text was written, and the rest is kept. Where the run ends here a rest
+-- may be lost.
+pub record HasAnswered {T E : Type 0} (start m : Moment) (c : Command) (d : DiskState) (f : FeedState) (replica : Replica) (held held' : Option (List ℕ)) (before kept : List ℕ) (result : Result T E) : Type 0 where
+  pub leads : Leads start m c d f replica
+  pub more : List ℕ
+  pub rest : List ℕ
+  pub appends : Appends held held' more
+  pub text : before ++ leads.next.text ≡ more ++ rest
+  pub left : OnOk result (kept ≡ rest)

@@ -1,3 +1,4 @@
 pub mod Commands
+pub mod Rows
 pub mod Serving
 pub mod Turns

@@ -62,10 +62,11 @@ pub record HasRunSome (m : Moment) (bytes written : List ℕ) (d : DiskState) (f
   pub begins : IsFront part bytes
   pub run : HasRunTo m (lines_ended part) written d f
 
--- A line was answered; or there was no memory to read it, or for its text.
-abbrev pub AnswersLine : {T E : Type 0} → Moment → List (List ℕ) → List ℕ → List ℕ → DiskState → FeedState → Server → Result T E → Type 0
-AnswersLine m lines line written d f s r = MatchResult r (λ _. HasRun m (lines ++ line ∷ []) written d f s.replica s.replies.items)
-    (λ _. HasRunTo m lines written d f ⊎ HasRunTo m (lines ++ line ∷ []) written d f)
+-- A line was answered, and some of the replies were written; or the run ends here, with a front of them written.
+abbrev pub AnswersLine : {T E : Type 0} → Moment → List (List ℕ) → List ℕ → List ℕ → DiskState → FeedState → Option (List ℕ) → Option (List ℕ) → Server → Result T E → Type 0
+AnswersLine m lines line written d f held held' s r = (more : List ℕ) × Appends held held' more
+    × MatchResult r (λ _. HasRun m (lines ++ line ∷ []) (written ++ more) d f s.replica s.replies.items)
+    (λ _. HasRunTo m lines (written ++ more) d f ⊎ HasRunTo m (lines ++ line ∷ []) (written ++ more) d f)
 
 -- the line that is open behind the bytes
 abbrev pub last_of_all : List (List ℕ) → List ℕ

@@ -60,10 +60,10 @@ fn end<D: Disk, F: Feed, K: Sink>(
     ensures goes { (disk.new ≡ disk.old) × FeedGoes (F.state feed.old) (F.state feed.new)
         × BytesGo (K.state out.old) (K.state out.new) }
 {
-    if server.answer(alloc, disk, feed).is_err() {
-        return 10;
+    match server.answer(alloc, disk, feed, out) {
+        Ok(()) => finish(out, server.replies(), 0),
+        Err(fault) => fault.status(),
     }
-    finish(out, server.replies(), 0)
 }
 
 /// Answers the lines that the last lawful bytes of a script end that is too long.

@@ -1,21 +1,21 @@
-//! A run of a script: takes its bytes as they come, and collects the replies to the lines that they end.
+//! A run of a script: takes its bytes as they come, and writes the replies to the lines that they end.
 //!
-//! Each byte is looked at once. Of a line no more is kept than tells whether it is too long, and of the replies no more than one
-//! line's answer, which is written before the next line is read.
+//! Each byte is looked at once. Of a line no more is kept than tells whether it is too long. Of an answer 64 KiB are collected at most; all
+//! of it is written before the next line is read.
 
-ghost use Rattle.std.specs.Prelude.{◌≡◌, ◌++◌, ◌∷◌, [], ℕ, IfErr, List, MatchResult, OnErr, OnOk};
+ghost use Rattle.std.specs.Prelude.{◌≡◌, ◌++◌, ◌∷◌, [], ℕ, IfErr, IsSome, List, OnErr, OnOk};
 ghost use Rattle.std.specs.Io.KnownBytes.{Appends};
 ghost use Rattle.lt_world.specs.Object.{BytesGo};
 ghost use Rattle.lt_world.specs.Feed.{FeedGoes};
 ghost use Rattle.lt_machine.specs.Run.{Moment};
 ghost use Rattle.lt_engine.specs.State.{IsFed};
 ghost use Rattle.lt_script.specs.Lines.{kept_of};
-ghost use Rattle.lightning_cli.specs.Serving.{AnswersLine, AppendsFront, Failed, HasRun, HasRunSome, OutOver, Stands, Unfailed, WritesSome};
+ghost use Rattle.lightning_cli.specs.Serving.{AnswersLine, AppendsFront, Failed, HasRun, OutOver, Stands, Unfailed, WritesSome};
 ghost use Rattle.lightning_cli.specs.Turns.{TakesPiece, take_status};
 ghost use Rattle.lightning_cli.specs.declared.server.TakeFault.TheVariants as faults;
 
 use crate::command::answer;
-use crate::output::put;
+use crate::output::{add, pour};
 use lt_core::Memory;
 use lt_disk::Disk;
 use lt_engine::Replica;
@@ -102,7 +102,7 @@ impl Server {
         bytes: &[u8],
     ) -> Result<(), TakeFault>
         requires fed { IsFed self.old.replica (F.state feed.old) }
-        ensures taken { (m : Moment) (before written : List ℕ)
+        ensures taken { (m : Moment) (before written : List ℕ) → IsSome (K.state out.old).told
             → Stands m before written (D.state disk.old) (F.state feed.old) self.old
             → TakesPiece m (before ++ bytes.now) written (D.state disk.new) (F.state feed.new) (K.state out.old).told
             (K.state out.new).told self.new result }
@@ -114,7 +114,7 @@ impl Server {
             × BytesGo (K.state out.old) (K.state out.new) }
     {
         for byte in bytes {
-            self.take_byte(alloc, disk, feed, *byte)?;
+            self.take_byte(alloc, disk, feed, out, *byte)?;
             self.flush_ended(out, *byte)?;
         }
         self.flush(out)?;
@@ -150,66 +150,76 @@ impl Server {
         ensures rest { (self.new.replica ≡ self.old.replica) × (self.new.line.items ≡ self.old.line.items) }
         ensures goes { BytesGo (K.state out.old) (K.state out.new) }
     {
-        put(out, self.replies.as_slice())?;
-        self.replies.clear();
-        Ok(())
+        pour(out, &mut self.replies)
     }
 
     /// Takes one byte.
-    fn take_byte<D: Disk, F: Feed>(
+    fn take_byte<D: Disk, F: Feed, K: Sink>(
         &mut self,
         alloc: Global,
         disk: &mut D,
         feed: &mut F,
+        out: &mut K,
         byte: u8,
-    ) -> Result<(), Memory>
+    ) -> Result<(), TakeFault>
         requires fed { IsFed self.old.replica (F.state feed.old) }
-        ensures taken { (m : Moment) (before written : List ℕ)
+        ensures taken { (m : Moment) (before written : List ℕ) → IsSome (K.state out.old).told
             → Stands m before written (D.state disk.old) (F.state feed.old) self.old
-            → MatchResult result
-            (λ _. Stands m (before ++ byte ∷ []) written (D.state disk.new) (F.state feed.new) self.new)
-            (λ _. HasRunSome m (before ++ byte ∷ []) written (D.state disk.new) (F.state feed.new)) }
+            → TakesPiece m (before ++ byte ∷ []) written (D.state disk.new) (F.state feed.new) (K.state out.old).told
+            (K.state out.new).told self.new result }
+        ensures unfailed { OnOk result (Unfailed (K.state out.old) (K.state out.new)) }
+        ensures over { IfErr result (λ e. OutOver (K.state out.old) (K.state out.new) (take_status e)) }
         ensures fed { IsFed self.new.replica (F.state feed.new) }
-        ensures goes { (disk.new ≡ disk.old) × FeedGoes (F.state feed.old) (F.state feed.new) }
+        ensures goes { (disk.new ≡ disk.old) × FeedGoes (F.state feed.old) (F.state feed.new)
+            × BytesGo (K.state out.old) (K.state out.new) }
     {
         if byte == LINE_FEED {
-            self.answer(alloc, disk, feed)?;
+            self.answer(alloc, disk, feed, out)?;
             self.line.clear();
             return Ok(());
         }
         if self.line.len() <= MAX_LINE {
-            self.line.push(byte)?;
+            add(&mut self.line, &[byte])?;
         }
         Ok(())
     }
 
-    /// Answers the open line.
-    pub fn answer<D: Disk, F: Feed>(
+    /// Answers the open line. Some of the replies may be written.
+    pub fn answer<D: Disk, F: Feed, K: Sink>(
         &mut self,
         alloc: Global,
         disk: &mut D,
         feed: &mut F,
-    ) -> Result<(), Memory>
+        out: &mut K,
+    ) -> Result<(), TakeFault>
         requires fed { IsFed self.old.replica (F.state feed.old) }
-        ensures answered { (m : Moment) (lines : List (List ℕ)) (written line : List ℕ)
+        ensures answered { (m : Moment) (lines : List (List ℕ)) (written line : List ℕ) → IsSome (K.state out.old).told
             → self.old.line.items ≡ kept_of line
             → HasRun m lines written (D.state disk.old) (F.state feed.old) self.old.replica self.old.replies.items
-            → AnswersLine m lines line written (D.state disk.new) (F.state feed.new) self.new result }
+            → AnswersLine m lines line written (D.state disk.new) (F.state feed.new) (K.state out.old).told
+            (K.state out.new).told self.new result }
         ensures line { self.new.line.items ≡ self.old.line.items }
+        ensures unfailed { OnOk result (Unfailed (K.state out.old) (K.state out.new)) }
+        ensures over { IfErr result (λ e. OutOver (K.state out.old) (K.state out.new) (take_status e)) }
         ensures fed { IsFed self.new.replica (F.state feed.new) }
-        ensures goes { (disk.new ≡ disk.old) × FeedGoes (F.state feed.old) (F.state feed.new) }
+        ensures goes { (disk.new ≡ disk.old) × FeedGoes (F.state feed.old) (F.state feed.new)
+            × BytesGo (K.state out.old) (K.state out.new) }
     {
         match read_line(alloc, self.line.as_slice())? {
             Line::Skipped => Ok(()),
             Line::Bad => {
-                self.replies.extend_from_slice(BAD_LINE)?;
+                add(&mut self.replies, BAD_LINE)?;
                 Ok(())
             }
-            Line::Command(command) => {
-                let text = answer(alloc, &mut self.replica, &command, disk, feed)?;
-                self.replies.extend_from_slice(text.as_slice())?;
-                Ok(())
-            }
+            Line::Command(command) => answer(
+                alloc,
+                &mut self.replica,
+                &command,
+                disk,
+                feed,
+                &mut self.replies,
+                out,
+            ),
         }
     }
 }

@@ -9,8 +9,8 @@ use Rattle.lt_machine.specs.Outside.{GivenUpTo}
 use Rattle.lt_world.specs.Object.{IsFront}
 use Rattle.lt_words.specs.Reply as model
 use Rattle.lt_terms.specs.Value.{Value}
-use Rattle.lt_io.specs.declared.row_sink.RowRefusal.{RowRefusal}
-use Rattle.lt_io.specs.declared.row_sink.RowRefusal.TheVariants as refusals
+use Rattle.lt_scan.specs.declared.row_sink.RowRefusal.{RowRefusal}
+use Rattle.lt_scan.specs.declared.row_sink.RowRefusal.TheVariants as refusals
 use Rattle.lt_engine.specs.Scans.{GivesSome}
 
 list_same : (rows r1 r2 : Option (List (List Value))) (xs : List (List Value)) → IfSome rows (λ a. r1 ≡ Some (a ++ xs)) → r2 ≡ r1 → IfSome rows (λ a. r2 ≡ Some (a ++ xs))

@@ -21,8 +21,8 @@ use Rattle.lt_reply.specs.View.{IsSpoken, view_refusal, view_reply}
 use Rattle.lt_reply.specs.declared.refusal.Refusal.{Refusal}
 use Rattle.lt_reply.specs.declared.refusal.Refusal.TheVariants as refusals
 use Rattle.lt_reply.specs.declared.reply.Reply.{Reply}
-use Rattle.lt_io.specs.declared.row_sink.RowRefusal.{RowRefusal}
-use Rattle.lt_io.specs.declared.row_sink.RowRefusal.TheVariants as rows
+use Rattle.lt_scan.specs.declared.row_sink.RowRefusal.{RowRefusal}
+use Rattle.lt_scan.specs.declared.row_sink.RowRefusal.TheVariants as rows
 use Rattle.lt_engine.specs.Scans.{GivesSome}
 use Rattle.lt_engine.specs.State.{memory_of, state_of}
 use Rattle.lt_engine.specs.Steps.{AreRows, BreaksOff, Refuses, ScanFails, Scanned, answer_of, breaks_off, refuses_scan, sink_fails, with_rows}

@@ -11,8 +11,8 @@ use Rattle.lt_tables.specs.Schema.{SchemaVersion, Table, table_numbered}
 use Rattle.lt_words.specs.Script.{plain_query}
 use Rattle.lt_terms.specs.Value.{Value}
 use Rattle.lt_rows.specs.Scans.{AreShaped, RiseByKey, scan_rows}
-use Rattle.lt_io.specs.declared.row_sink.RowRefusal.{RowRefusal}
-use Rattle.lt_io.specs.declared.row_sink.RowRefusal.TheVariants as rows
+use Rattle.lt_scan.specs.declared.row_sink.RowRefusal.{RowRefusal}
+use Rattle.lt_scan.specs.declared.row_sink.RowRefusal.TheVariants as rows
 use Rattle.lt_steps.specs.Memory.{gone_over}
 use Rattle.lt_engine.specs.State.{memory_of}
 use Rattle.lt_engine.specs.declared.replica.Replica.{Replica}

@@ -1,5 +1,5 @@
 -- What a step does: what it answers, and what it leaves.
-use Rattle.std.specs.Prelude.{Err, IfSome, IsTrue, List, None, Ok, Option, Result, Some, [], length, take, ℕ, ⊤, ◌+◌, ◌++◌, ◌<◌, ◌∷◌, ◌≡◌, ◌⊎◌}
+use Rattle.std.specs.Prelude.{Bool, Err, IfSome, IsTrue, List, None, Ok, Option, Result, Some, [], false, length, take, true, ℕ, ⊤, ◌+◌, ◌++◌, ◌<◌, ◌∷◌, ◌≡◌, ◌⊎◌}
 use Rattle.std.specs.List.{AllByRecursion}
 use Rattle.lt_terms.specs.declared.Format.TheVariants as format
 use Rattle.lt_world.specs.Disk.{Rose}
@@ -116,3 +116,12 @@ pub data ScanFails (r : Replica) (q : Query) (before now : RowSinkState) (e : Re
   sink_fails : e ≡ refusals.OutFault → Rose before.faults now.faults → BreaksOff r q before now refusals.OutFault → ScanFails r q before now e
   breaks_off : e ≡ refusals.Memory → now.faults ≡ before.faults → BreaksOff r q before now refusals.Memory → ScanFails r q before now e
   refuses_scan : now ≡ before → Refuses (refused (state_of r) (do_scan q)) e → ScanFails r q before now e
+
+-- whether a fault of the row sink is answered
+abbrev pub falls : Refusal → Bool
+falls refusals.OutFault = true
+falls e = false
+
+abbrev pub fell : {T : Type 0} → Result T Refusal → Bool
+fell (Ok x) = false
+fell (Err e) = falls e

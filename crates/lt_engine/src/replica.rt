@@ -46,7 +46,7 @@ impl Replica {
     ghost use Rattle.lt_command.specs.View.{view_command};
     ghost use Rattle.lt_reply.specs.View.{IsSpoken};
     ghost use Rattle.lt_engine.specs.State.{IsFed, StandsFor, memory_of, state_of, view_start};
-    ghost use Rattle.lt_engine.specs.Steps.{answer_of};
+    ghost use Rattle.lt_engine.specs.Steps.{answer_of, fell};
 
     /// A fresh replica, which stands behind the headers of the feed's streams. The disk is left alone.
     pub fn start<D: Disk, F: Feed>(
@@ -107,6 +107,9 @@ impl Replica {
         // The next step may follow, and the refusal can be printed.
         ensures fed { IsFed self.new (F.state feed.new) }
         ensures spoken { IfErr result IsSpoken }
+
+        // The rows of a scan led the row sink on, to its fault where that is answered.
+        ensures led { R.led rows.old rows.new (fell result) }
 
         // The disk was not used, and the feed and the row sink went on.
         ensures goes { (disk.new ≡ disk.old)

@@ -11,7 +11,8 @@ ghost use Rattle.lt_schema.specs.View.{view_version};
 ghost use Rattle.lt_engine.specs.Answers.{Finds};
 ghost use Rattle.lt_engine.specs.Scans.{GivesAll, GivesSome, ReadsHeld, plain, table_keys, unsafe_at, view_row_refusal};
 ghost use Rattle.lt_engine.specs.State.{state_of};
-ghost use Rattle.lt_engine.specs.Steps.{AreRows, Refuses, ScanFails, Scanned};
+ghost use Rattle.lt_engine.specs.Steps.{AreRows, Refuses, ScanFails, Scanned, falls as refusal_falls, fell};
+ghost use Rattle.lt_scan.specs.Rows.{falls, fell as row_fell};
 
 use crate::replica::Replica;
 use lt_command::Query;
@@ -27,6 +28,7 @@ impl Replica {
         ensures done { IfOk result (Scanned self.now (plain query.now) (R.state rows.old) (R.state rows.new)) }
         ensures refused { IfErr result (ScanFails self.now (plain query.now) (R.state rows.old) (R.state rows.new)) }
         ensures goes { RowSinkGoes (R.state rows.old) (R.state rows.new) }
+        ensures led { R.led rows.old rows.new (fell result) }
     {
         let found = self.find_rows(query)?;
         match give(&found, rows) {
@@ -116,6 +118,7 @@ fn give<R: RowSink>(found: &List<Row>, rows: &mut R) -> Result<(), RowRefusal>
         → Rose (R.state rows.old).faults (R.state rows.new).faults) }
     ensures lacks { IfErr result (λ e. e ≡ RowRefusal.Memory → (R.state rows.new).faults ≡ (R.state rows.old).faults) }
     ensures goes { RowSinkGoes (R.state rows.old) (R.state rows.new) }
+    ensures led { R.led rows.old rows.new (row_fell result) }
 {
     for row in found.as_slice() {
         rows.row(row)?;
@@ -128,6 +131,7 @@ fn refusal_of(refusal: RowRefusal) -> Refusal
     ensures says { view_refusal result ≡ view_row_refusal refusal }
     ensures fault { refusal ≡ RowRefusal.Fault → result ≡ Refusal.OutFault }
     ensures memory { refusal ≡ RowRefusal.Memory → result ≡ Refusal.Memory }
+    ensures led { refusal_falls result ≡ falls refusal }
 {
     match refusal {
         RowRefusal::Fault => Refusal::OutFault,

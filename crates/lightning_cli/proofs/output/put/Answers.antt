@@ -7,13 +7,13 @@ use Rattle.lightning_cli.proofs.output.put.Goals as goal
 pub loop-at-preserved : goal.loop-at-preserved
 loop-at-preserved g c =
     let i = c.loop-at.invariant in
-    let e = c.in_ok-at.ensures in
+    let e = c.in-Ok.ensures in
     let s = c.split_at.ensures in
     record {
       within = omega (arith, e.bound.1, s.back_len);
       written = subst (λ t. Appends (g.K.Sink.state c.args.out.now).told (g.K.Sink.state c.write.new.self).told t)
-          (ap (λ b. take c.loop-at.at c.args.bytes.now ++ take c.in_ok-at.field-0 b) s.back ∙ sym (take-add c.loop-at.at c.in_ok-at.field-0 c.args.bytes.now))
-          (appends_then _ _ _ (take c.loop-at.at c.args.bytes.now) (take c.in_ok-at.field-0 c.split_at.result.1.now) i.written e.bytes);
+          (ap (λ b. take c.loop-at.at c.args.bytes.now ++ take c.in-Ok.n b) s.back ∙ sym (take-add c.loop-at.at c.in-Ok.n c.args.bytes.now))
+          (appends_then _ _ _ (take c.loop-at.at c.args.bytes.now) (take c.in-Ok.n c.split_at.result.1.now) i.written e.bytes);
       unfailed = unfailed_then _ _ _ i.unfailed (record { faults = e.cause.kept; failed_at = e.first_fault });
       goes = bytes_then _ _ _ i.goes (record { stays = e.stays; faults = e.cause.later });
     }

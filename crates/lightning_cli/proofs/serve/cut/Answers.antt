@@ -1,4 +1,5 @@
-use Rattle.std.proofs.Common.{arith, inl, inr, ◌∙◌}
+use Rattle.std.proofs.Common.{ap, arith, inl, inr, ◌∙◌}
+use Rattle.std.specs.Prelude.{is_some}
 use Rattle.lightning_cli.proofs.EndLaws.{cut_status, cuts, finish_status}
 use Rattle.lightning_cli.proofs.OutLaws.{bytes_then, finish_as, out_finishes, out_then, over_as, too_long_is}
 use Rattle.lightning_cli.proofs.ServeLaws.{long_served, served_as, some_served}
@@ -7,7 +8,7 @@ use Rattle.lightning_cli.proofs.serve.cut.Goals as goal
 pub returns-in-Err-clause-served : goal.returns-in-Err-clause-served
 returns-in-Err-clause-served g c m old script count more full over s =
     let e = c.in-Err.ensures in
-    let t = e.taken m s.bytes s.written s.stands in
+    let t = e.taken m s.bytes s.written (ap is_some s.tells.written) s.stands in
     served_as m old _ _ _ c.status.ensures
     (some_served m old _ _ _ _ script _ _ count c.args.bytes.now more c.args.server.now _ (cuts c.in-Err.fault) (omega (arith, full)) s e.goes.1 e.goes.2 t.0 t.1 t.2)
 
@@ -15,7 +16,7 @@ pub returns-in-Ok-clause-served : goal.returns-in-Ok-clause-served
 returns-in-Ok-clause-served g c m old script count more full over s =
     let e = c.in-Ok.ensures in
     let f = c.finish.ensures in
-    let t = e.taken m s.bytes s.written s.stands in
+    let t = e.taken m s.bytes s.written (ap is_some s.tells.written) s.stands in
     long_served m old _ _ _ _ script _ _ _ count c.args.bytes.now more c.args.server.now _ c.finish.result full over e.written s e.goes.1 e.goes.2 e.unfailed.faults t.0 t.1 t.2
     (finish_as _ _ _ _ 9 _ too_long_is f.finishes) f.goes
 

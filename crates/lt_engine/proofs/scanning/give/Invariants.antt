@@ -1,4 +1,4 @@
-use Rattle.std.proofs.Common.{map, take, ◌≡◌}
+use Rattle.std.proofs.Common.{false, map, take, ◌≡◌}
 use Rattle.lt_core.specs.View.{view_row}
 use Rattle.lt_world.specs.RowSink.{Given, RowSinkGoes}
 use Rattle.lt_engine.proofs.scanning.give.Given as goal
@@ -8,4 +8,5 @@ invariant-loop-row g l = record {
   given : Given (g.R.RowSink.state l.fn.rows) (g.R.RowSink.state l.rows) (map view_row (take l.row-index l.row-items));
   goes : RowSinkGoes (g.R.RowSink.state l.fn.rows) (g.R.RowSink.state l.rows);
   faults : (g.R.RowSink.state l.rows).faults ≡ (g.R.RowSink.state l.fn.rows).faults;
+  led : g.R.RowSink.led l.fn.rows l.rows false;
 }

@@ -1,4 +1,5 @@
 use Rattle.std.proofs.Common.{◌≡◌, List, ℕ, take, ◌++◌}
+use Rattle.std.specs.Prelude.{IsSome}
 use Rattle.std.specs.Io.KnownBytes.{Appends}
 use Rattle.lt_world.specs.Object.{BytesGo}
 use Rattle.lt_world.specs.Feed.{FeedGoes}
@@ -18,7 +19,7 @@ invariant-loop-byte g l =
       feed : FeedGoes (F.state l.fn.feed) (F.state l.feed);
       out : BytesGo (K.state l.fn.out) (K.state l.out);
       unfailed : Unfailed (K.state l.fn.out) (K.state l.out);
-      stands : (m : Moment) (before written : List ℕ) → Stands m before written (D.state l.fn.disk) (F.state l.fn.feed) l.fn.self
+      stands : (m : Moment) (before written : List ℕ) → IsSome (K.state l.fn.out).told → Stands m before written (D.state l.fn.disk) (F.state l.fn.feed) l.fn.self
           → (more : List ℕ) × Appends (K.state l.fn.out).told (K.state l.out).told more
           × Stands m (before ++ take l.byte-index l.bytes) (written ++ more) (D.state l.disk) (F.state l.feed) l.self;
     }

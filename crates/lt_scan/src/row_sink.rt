@@ -1,12 +1,13 @@
 //! What takes rows, one by one, as their texts.
 
-ghost use Rattle.std.specs.Prelude.{◌≡◌, ◌∷◌, [], ℕ, List, IsErrOf, OnErr, OnOk};
+ghost use Rattle.std.specs.Prelude.{Bool, ◌≡◌, ◌∷◌, [], ℕ, List, IsErrOf, OnErr, OnOk, false};
 ghost use Rattle.std.specs.Io.KnownBytes.{Appends};
 ghost use Rattle.lt_core.specs.View.{view_row};
 ghost use Rattle.lt_world.specs.Disk.{Rose};
 ghost use Rattle.lt_world.specs.RowSink.{Given, RowSinkGoes, RowSinkState};
 ghost use Rattle.lt_world.specs.Object.{IsFront};
-ghost use Rattle.lt_io.specs.declared.row_sink.RowRefusal.TheVariants as refusals;
+ghost use Rattle.lt_scan.specs.Rows.{fell};
+ghost use Rattle.lt_scan.specs.declared.row_sink.RowRefusal.TheVariants as refusals;
 
 use lt_core::{Memory, Row};
 
@@ -32,6 +33,9 @@ pub trait RowSink {
     /// How it spells a row, what it tells of its bytes and of its rows, and how often it failed.
     ghost state: { Self → RowSinkState };
 
+    /// Rows led from the one to the other; and whether the last of them met a fault of the outside.
+    ghost led: { Self → Self → Bool → Type 0 };
+
     /// Appends a row and its text.
     fn row(&mut self, row: &Row) -> Result<(), RowRefusal>
         ensures ok { OnOk result (Given (state self.old) (state self.new) (view_row row.now ∷ [])) }
@@ -43,5 +47,12 @@ pub trait RowSink {
         ensures goes { RowSinkGoes (state self.old) (state self.new) }
         ensures cause { IsErrOf result RowRefusal.Fault → Rose (state self.old).faults (state self.new).faults }
         ensures kept { OnOk result ((state self.new).faults ≡ (state self.old).faults) }
-        ensures lacks { IsErrOf result RowRefusal.Memory → (state self.new).faults ≡ (state self.old).faults };
+        ensures lacks { IsErrOf result RowRefusal.Memory → (state self.new).faults ≡ (state self.old).faults }
+        ensures led { led self.old self.new (fell result) };
+
+    /// No row leads nowhere.
+    ghost led_nowhere: { (a : Self) → led a a false };
+
+    /// Rows lead on from where others led without a fault.
+    ghost led_on: { (a b c : Self) (fault : Bool) → led a b false → led b c fault → led a c fault };
 }
