@@ -2,7 +2,7 @@
 use Rattle.std.proofs.Common.{Bool, List, [], ◌∷◌, ap, append-nil, append_assoc, arith, inl, inr, refl, subst, sym, false, true, ℕ, ◌++◌, ◌∙◌, ◌≡◌}
 use Rattle.std.proofs.lemmas.Bool.{false≢true}
 use Rattle.std.proofs.lemmas.Grind.{flat_map-append}
-use Rattle.std.specs.Prelude.{Err, IfErr, IfOk, IfSome, IsTrue, None, Ok, OnOk, Option, Result, Some, is_none, is_some, option_and_then, option_map, unwrap_or, ◌&&◌, ◌⊎◌}
+use Rattle.std.specs.Prelude.{Err, IfErr, IfSome, IsTrue, None, Ok, OnOk, Option, Result, Some, is_none, is_some, option_and_then, option_map, unwrap_or, ◌&&◌, ◌⊎◌}
 use Rattle.std.specs.Io.KnownBytes.{Appends}
 use Rattle.lt_world.specs.Disk.{DiskState, Rose}
 use Rattle.lt_world.specs.Feed.{AreShort, Feed}

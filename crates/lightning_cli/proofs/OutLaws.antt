@@ -10,7 +10,7 @@ use Rattle.std.specs.Prelude.{Bool, Err, IfErr, IfSome, MatchResult, codes, None
 use Rattle.std.specs.Result.{IsErrAnd}
 use Rattle.std.specs.Io.KnownBytes.{Appends, Consumes, IsAtEnd, Keeps}
 use Rattle.lightning_cli.specs.Rows.{LeadsOut}
-use Rattle.lightning_cli.specs.Serving.{AppendsFront, Failed, Finishes, IsTaken, OutOver, Unfailed, WritesSome}
+use Rattle.lightning_cli.specs.Serving.{Failed, Finishes, IsTaken, OutOver, Unfailed, WritesSome}
 
 pub appends_nothing : (o : Option (List ℕ)) → Appends o o []
 appends_nothing None = tt
@@ -92,13 +92,6 @@ unfailed_then a b c h k = record { faults = k.faults ∙ h.faults; failed_at = k
 
 pub failed_then : (a b c : BytesState) → Unfailed a b → Failed b c → Failed a c
 failed_then a b c h k = record { rose = omega (arith, h.faults, k.rose); stops = subst (λ x. FailsAt c.told x c.failed_at) h.failed_at k.stops }
-
--- some of a text was written, and none of it is left
-pub all_poured : (o p : Option (List ℕ)) (text kept : List ℕ) → kept ≡ [] → WritesSome o p text kept → Appends o p text
-all_poured o p text kept none h = subst (Appends o p) (sym (h.2 ∙ ap (λ x. h.0 ++ x) none ∙ append-nil h.0)) h.1
-
-pub front_poured : (o p : Option (List ℕ)) (text kept : List ℕ) → WritesSome o p text kept → AppendsFront o p text
-front_poured o p text kept h = (h.0, (kept, h.2), h.1)
 
 -- bytes behind a text, of which some first ones are written and the others kept
 pub row_poured : (o p : Option (List ℕ)) (text line all kept : List ℕ) → all ≡ text ++ line → WritesSome o p all kept → Appends (option_map (λ held. held ++ text) o) (option_map (λ held. held ++ kept) p) line

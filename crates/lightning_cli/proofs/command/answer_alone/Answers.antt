@@ -1,9 +1,7 @@
-use Rattle.std.proofs.Common.{[], ap, ◌++◌, ◌∙◌}
-use Rattle.std.specs.Prelude.{None}
+use Rattle.std.proofs.Common.{◌∙◌}
 use Rattle.lt_command.specs.View.{view_command}
 use Rattle.lt_engine.specs.Steps.{answer_of}
 use Rattle.lt_words.specs.Lines.{is_built}
-use Rattle.lt_world.specs.RowSink.{RowSinkState}
 use Rattle.lt_machine.specs.Outside.{is_command}
 use Rattle.lightning_cli.proofs.CommandLaws.{alone_leads, answered_alone, ok_is}
 use Rattle.lightning_cli.proofs.EndLaws.{err_ok, second_holds}

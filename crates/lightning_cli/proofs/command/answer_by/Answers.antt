@@ -1,9 +1,9 @@
-use Rattle.std.proofs.Common.{ap, arith, subst, sym, ◌++◌, ◌∙◌, ◌≡◌}
+use Rattle.std.proofs.Common.{ap, arith, subst, sym, ◌++◌, ◌∙◌}
 use Rattle.lt_command.specs.View.{view_command}
 use Rattle.lt_engine.specs.Steps.{answer_of}
 use Rattle.lt_words.specs.Lines.{is_built}
 use Rattle.lt_machine.specs.Outside.{is_command}
-use Rattle.lightning_cli.proofs.CommandLaws.{LeadsFrom, answered_cut, answered_rows, fault_answered, leads, no_fault_answered, ok_is}
+use Rattle.lightning_cli.proofs.CommandLaws.{LeadsFrom, answered_cut, answered_rows, fault_answered, leads, no_fault_answered}
 use Rattle.lightning_cli.proofs.EndLaws.{err_ok, second_holds}
 use Rattle.lightning_cli.proofs.OutLaws.{err_as, fell_over, led_unfailed, out_kept}
 use Rattle.lightning_cli.specs.Rows.{rows_state}

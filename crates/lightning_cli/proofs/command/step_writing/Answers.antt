@@ -1,4 +1,4 @@
-use Rattle.std.proofs.Common.{ap, rules, sym, ◌∙◌}
+use Rattle.std.proofs.Common.{ap, rules, ◌∙◌}
 use Rattle.lightning_cli.specs.Rows.{rows_state}
 use Rattle.lightning_cli.proofs.CommandLaws.{step_as}
 use Rattle.lightning_cli.proofs.command.step_writing.Goals as goal

@@ -1,4 +1,4 @@
-use Rattle.std.proofs.Common.{ap, sym, ◌∙◌, arith, inl, inr, refl}
+use Rattle.std.proofs.Common.{ap, sym, ◌∙◌, arith, inl, inr}
 use Rattle.std.specs.Prelude.{is_some}
 use Rattle.lightning_cli.specs.Serving.{open_line}
 use Rattle.lightning_cli.proofs.EndLaws.{cut_status, cuts, finish_status}

@@ -1,4 +1,4 @@
-use Rattle.std.proofs.Common.{[], sym, ap, inl, inr, refl, ◌∙◌, ◌++◌}
+use Rattle.std.proofs.Common.{[], sym, ap, inl, refl, ◌∙◌}
 use Rattle.lt_words.specs.Lines.{line_read}
 use Rattle.lt_machine.specs.Run.{last_moment}
 use Rattle.lt_command.specs.View.{view_command}

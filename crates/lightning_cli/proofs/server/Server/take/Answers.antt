@@ -1,4 +1,4 @@
-use Rattle.std.proofs.Common.{sym, ap, refl, subst, [], ◌∙◌, ◌++◌, ◌+◌, arith, take, append-nil, append_assoc, take-suc, take_all, add-one}
+use Rattle.std.proofs.Common.{sym, ap, refl, subst, [], ◌∙◌, ◌++◌, ◌+◌, take, append-nil, append_assoc, take-suc, take_all, add-one}
 use Rattle.lt_engine.specs.State.{IsFed}
 use Rattle.lt_world.specs.Object.{IsFront}
 use Rattle.lt_pump.proofs.FeedLaws.{goes_itself, goes_then}
