@@ -1,6 +1,6 @@
 -- Carriers: what lies within one of the kinds that they join lies within them, and they keep what those kinds have in common.
 use Rattle.std.proofs.Common.{Bool, List, ap, ap₂, arith, cond, eq-eqb, eqb-true, false, le-leb, leb-true, lt-ltb, ltb-false, ltb-true, ne_eqb, refl, subst, sym, true, ℕ, ◌+◌, ◌-◌, ◌<◌, ◌∙◌, ◌≡◌, ◌≤◌}
-use Rattle.std.specs.Prelude.{IsTrue, None, Option, Some, max, nat_le, nat_lt, not, option_map, ◌&&◌, ◌==◌, ◌||◌}
+use Rattle.std.specs.Prelude.{IsTrue, None, Option, Some, max, nat_le, nat_lt, not, option_map, ◌&&◌, ◌==◌}
 use Rattle.std.specs.Str.{is_utf8}
 use Rattle.std.proofs.lemmas.Bool.{and_from, and_parts, eqb-false, false≢true, or_parts}
 use Rattle.std.specs.Option.{option_map_or}
@@ -12,6 +12,7 @@ use Rattle.lt_machine.specs.Laws.{fields_within, lies_within, own_rank}
 use Rattle.lt_lemmas.proofs.ConversionLemmas.{are_rising, is_rising}
 use Rattle.lt_laws.proofs.ConversionLemmas.{rank_within}
 use Rattle.lt_terms.specs.declared.Rank.TheVariants as rank
+use Rattle.lt_lemmas.proofs.SnapshotLaws.{or_false}
 
 -- ---- ranks
 
@@ -200,10 +201,6 @@ clash_at os (field_kind m name k ks) e n a o d f =
     subst (λ (x : Kind). clash o x ≡ false) c (sym (ap (λ (x : Option Kind). option_map_or (λ o. clash o k) x false) g) ∙ p.0))
     (λ c. clash_at os ks p.1 n a o c f)
 
-or_from : (a b : Bool) → a ≡ false → b ≡ false → (a || b) ≡ false
-or_from true b h i = h
-or_from false b h i = i
-
 bare_struct : (k : Kind) → is_struct (bare k) ≡ is_struct k
 bare_struct (plain r) = refl
 bare_struct (enumeration names) = refl
@@ -224,7 +221,7 @@ mutual
   clash_bare_within : (bs ks : FieldKinds) → clash_within bs ks ≡ false → clash_within (bare_fields bs) ks ≡ false
   clash_bare_within bs no_kinds e = refl
   clash_bare_within bs (field_kind n name k ks) e = let p = or_parts (option_map_or (λ o. clash o k) (kind_at n bs) false) (clash_within bs ks) e in
-      or_from _ _ (ap (λ (o : Option Kind). option_map_or (λ o. clash o k) o false) (kind_at-bare n bs) ∙ clash_bare_one (kind_at n bs) k (λ b. clash_bare b k) p.0) (clash_bare_within bs ks p.1)
+      or_false _ _ (ap (λ (o : Option Kind). option_map_or (λ o. clash o k) o false) (kind_at-bare n bs) ∙ clash_bare_one (kind_at n bs) k (λ b. clash_bare b k) p.0) (clash_bare_within bs ks p.1)
 
 joined_struct : (a b : Kind) → is_struct (joined a b) ≡ is_struct b
 joined_struct a (plain r) = refl
@@ -253,7 +250,7 @@ mutual
   clash_joined_within os bs (field_kind n name k ks) d e =
       let p = or_parts (option_map_or (λ o. clash o k) (kind_at n os) false) (clash_within os ks) d in
       let q = or_parts (option_map_or (λ o. clash o k) (kind_at n bs) false) (clash_within bs ks) e in
-      or_from _ _ (ap (λ (o : Option Kind). option_map_or (λ o. clash o k) o false) (kind_at-joined n os bs) ∙ clash_joined_one (kind_at n os) (kind_at n bs) k (λ a b. clash_joined a b k) p.0 q.0) (clash_joined_within os bs ks p.1 q.1)
+      or_false _ _ (ap (λ (o : Option Kind). option_map_or (λ o. clash o k) o false) (kind_at-joined n os bs) ∙ clash_joined_one (kind_at n os) (kind_at n bs) k (λ a b. clash_joined a b k) p.0 q.0) (clash_joined_within os bs ks p.1 q.1)
 
 -- from a number on the fields of a struct are these
 abbrev pub TailOf : ℕ → FieldKinds → FieldKinds → Type 0
@@ -287,7 +284,7 @@ mutual
       let u = and_parts (nat_lt low n && is_rising k) (are_rising n ks) up in
       let w = and_parts (nat_lt low n) (is_rising k) u.0 in
       let l : low < n = ltb-true low n w.0 in
-      or_from _ _ (clash_swap_one (kind_at n bs) k (λ b. clash_swap k b w.1) (λ b f. clash_at all bs e n b k f (tail_here low n name k all ks t l))) (clash_swap_within all ks bs n u.1 (tail_next low n name k all ks t l) e)
+      or_false _ _ (clash_swap_one (kind_at n bs) k (λ b. clash_swap k b w.1) (λ b f. clash_at all bs e n b k f (tail_here low n name k all ks t l))) (clash_swap_within all ks bs n u.1 (tail_next low n name k all ks t l) e)
 
 mutual
   pub clash_self : (k : Kind) → IsTrue (is_rising k) → clash k k ≡ false
@@ -301,7 +298,7 @@ mutual
       let u = and_parts (nat_lt low n && is_rising k) (are_rising n ks) up in
       let w = and_parts (nat_lt low n) (is_rising k) u.0 in
       let l : low < n = ltb-true low n w.0 in
-      or_from _ _ (ap (λ (o : Option Kind). option_map_or (λ o. clash o k) o false) (tail_here low n name k all ks t l) ∙ clash_self k w.1) (clash_self_within all ks n u.1 (tail_next low n name k all ks t l))
+      or_false _ _ (ap (λ (o : Option Kind). option_map_or (λ o. clash o k) o false) (tail_here low n name k all ks t l) ∙ clash_self k w.1) (clash_self_within all ks n u.1 (tail_next low n name k all ks t l))
 
 -- ---- a value of a kind's shape lies within the kind
 

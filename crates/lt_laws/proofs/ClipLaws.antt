@@ -68,7 +68,7 @@ past-above : (v : RowVersion) (mid : List ℕ) (ws : List RowVersion) → below 
 past-above v mid [] h a = tt
 past-above v mid (w ∷ ws) h a = (past-one v w mid (below w.key mid) refl a.0 h, past-above v mid ws h a.1)
 
-and-false : (b c : Bool) → c ≡ false → (b && c) ≡ false
+pub and-false : (b c : Bool) → c ≡ false → (b && c) ≡ false
 and-false true c h = h
 and-false false c h = refl
 
@@ -112,7 +112,7 @@ pub clips-neighbours : (r s : Range) (vs : List RowVersion) → r.high ≡ Some 
     → clip r vs ++ clip s vs ≡ clip (record { low = r.low; high = s.high }) vs
 clips-neighbours r s vs e h i o = ap (λ b. clip (record { low = r.low; high = b }) vs ++ clip s vs) e ∙ clips-join r.low s.low s.high h (subst (λ b. IsTrue (is_high_within b s.high)) e i) vs o
 
-key-not-below : (a b : List ℕ) → below a b ≡ true → below b a ≡ false
+pub key-not-below : (a b : List ℕ) → below a b ≡ true → below b a ≡ false
 key-not-below a b h = ap is_lt (nat_list_cmp_total.antisymm b a ∙ ap ordering_reverse (key-less a b h))
 
 abuts-high : (h : Option (List ℕ)) (low : List ℕ) → IsTrue (option_map_or (λ b. same_key b low) h false) → h ≡ Some low

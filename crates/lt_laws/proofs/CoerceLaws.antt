@@ -402,7 +402,7 @@ effect_coerced from to (v ∷ vs) a = ap (effect_by v.op (coerce from to v.cells
 
 -- ---- as many cells as leaves
 
-map_length : {A B : Type 0} (f : A → B) (xs : List A) → length (map f xs) ≡ length xs
+pub map_length : {A B : Type 0} (f : A → B) (xs : List A) → length (map f xs) ≡ length xs
 map_length f [] = refl
 map_length f (x ∷ xs) = ap suc (map_length f xs)
 

@@ -9,7 +9,6 @@ use Rattle.lt_terms.specs.Layout.{Cell, Leaf, are_lawful, coerce, is_unset, layo
 use Rattle.lt_terms.specs.Kind.{Kind}
 use Rattle.lt_terms.specs.declared.Op.{Op}
 use Rattle.lt_tables.specs.Version.{RowVersion, asof, coerce_all, coerced, collapse, compose, is_delete, is_insert, is_ordered, is_version, onto, overlay, rolled_up, stands_before}
-use Rattle.lt_lemmas.proofs.TakenLaws.{left, right}
 use Rattle.lt_lemmas.proofs.ListFacts.{all_filter}
 use Rattle.lt_lemmas.proofs.MergeLaws.{Above, ordered-above, ordered-tail}
 use Rattle.lt_laws.proofs.SeenLaws.{AreLaid, coerce_own, laid_lawful}
@@ -19,8 +18,9 @@ use Rattle.lt_laws.proofs.LaidLaws.{goes_laid, over_laid, unset_as}
 use Rattle.lt_laws.proofs.WidenedStore.{lawful_fit}
 use Rattle.lt_laws.proofs.MomentLaws.{later, rolled-above}
 use Rattle.lt_laws.proofs.ScanLemmas.{from-filter, in-filter}
-use Rattle.lt_laws.proofs.ReadLaws.{or_left}
 use Rattle.lt_terms.specs.declared.Op.TheVariants as ops
+use Rattle.lt_lemmas.proofs.PointLaws.{left, right}
+use Rattle.lt_lemmas.proofs.SnapshotLaws.{or_left}
 
 -- ---- versions with cells that lie lawfully under a layout
 
@@ -193,7 +193,7 @@ asof_goes from to t vs a = kept_goes (λ u o. nat_le u t && is_insert o) from to
 
 -- ---- what stands above the minimum
 
-composed_ts : (w v : RowVersion) → (compose w v).ts ≡ v.ts
+pub composed_ts : (w v : RowVersion) → (compose w v).ts ≡ v.ts
 unfolding compose
 composed_ts w v = refl
 

@@ -16,10 +16,12 @@ use Rattle.lt_storage.specs.Store.{IsLayout, are_store_kinds, is_store_kind}
 use Rattle.lt_machine.specs.Laws.{FlattensBack, are_settings}
 use Rattle.lt_lemmas.proofs.ConversionLemmas.{are_rising, is_rising}
 use Rattle.lt_terms.specs.declared.Rank.TheVariants as rank
+use Rattle.lt_lemmas.proofs.SnapshotLaws.{or_right}
+use Rattle.lt_laws.proofs.ConversionLemmas.{found_here, found_later}
 
 -- ---- paths
 
-path_self : (p : List ℕ) → same_path p p ≡ true
+pub path_self : (p : List ℕ) → same_path p p ≡ true
 path_self [] = refl
 path_self (a ∷ p) = rw (eq-eqb a a refl) (path_self p)
 
@@ -196,12 +198,6 @@ along_field : (p : List ℕ) (n : ℕ) (v : Value) → value_along (p ++ n ∷ [
 along_field [] n v = refl
 along_field (a ∷ p) n v = along_field p n (field_of a v)
 
-found_here : (m : ℕ) (v w : Value) → cond (m == m) v w ≡ v
-found_here m v w = rw (eq-eqb m m refl) refl
-
-found_later : (n m : ℕ) (v w : Value) → m < n → cond (n == m) v w ≡ w
-found_later n m v w h = rw (ne_eqb n m (λ e. absurd (omega (arith, e)))) refl
-
 -- a field is not found among those above it
 later_passed : (c : ℕ) (p : List ℕ) (m : ℕ) (ks : FieldKinds) (low : ℕ) → m ≤ low → (q : List ℕ) → IsTrue (are_rising low ks) → Each (IsPassed c ((p ++ m ∷ []) ++ q)) (field_leaves c p ks)
 later_passed c p m no_kinds low le q up = tt
@@ -336,19 +332,15 @@ none_set : (g : Leaf → Cell) (n : ℕ) → ((l : Leaf) → l.column ≡ n → 
 none_set g n none [] = refl
 none_set g n none (l ∷ ls) = rw (unset_by g n none l (cases_eq l.column n)) (none_set g n none ls)
 
-by_or : (a b : Bool) → b ≡ true → (a || b) ≡ true
-by_or true b h = refl
-by_or false b h = h
-
 any_by : (P Q : Leaf × Cell → Bool) (e : Leaf × Cell) (es : List (Leaf × Cell)) (f : Leaf × Cell) (b : Bool) → cond b (Some e) (find P es) ≡ Some f → Q f ≡ true → (find P es ≡ Some f → list_any Q es ≡ true) → (Q e || list_any Q es) ≡ true
 any_by P Q e es f true h q rest = let same : e ≡ f = cc in rw (ap Q same ∙ q) refl
-any_by P Q e es f false h q rest = by_or (Q e) (list_any Q es) (rest h)
+any_by P Q e es f false h q rest = or_right (Q e) (list_any Q es) (rest h)
 
 any_found : (P Q : Leaf × Cell → Bool) (es : List (Leaf × Cell)) (f : Leaf × Cell) → find P es ≡ Some f → Q f ≡ true → list_any Q es ≡ true
 any_found P Q [] f h q = cc
 any_found P Q (e ∷ es) f h q = any_by P Q e es f (P e) h q (λ i. any_found P Q es f i q)
 
-cell_set : (b : Bool) (w : Value) → is_unset (cond b (bool_cell (is_structure w)) (cell_of w)) ≡ false
+pub cell_set : (b : Bool) (w : Value) → is_unset (cond b (bool_cell (is_structure w)) (cell_of w)) ≡ false
 cell_set true w = refl
 cell_set false null_value = refl
 cell_set false (bool_value b) = refl

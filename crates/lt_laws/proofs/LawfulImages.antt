@@ -13,11 +13,12 @@ use Rattle.lt_tables.specs.Version.{AreVersions, RowVersion, is_ordered, is_vers
 use Rattle.lt_tables.specs.Schema.{Catalogue, Table, table_numbered}
 use Rattle.lt_tables.specs.Pump.{Part}
 use Rattle.lt_storage.specs.Store.{AreLawfulTables, BundleEntry, Delta, HasBundles, HasDeltas, HasTables, HoldsLawful, IsIndex, IsKeyBytes, IsLawfulManifest, IsLawfulPart, IsLawfulTable, IsTableIndex, Manifest, TableDelta, TableIndex, bare_entry, entries_rise, fits_63, is_covered, is_delta_entry, is_entry, is_part_entry, last_key}
-use Rattle.lt_codecs.proofs.ListFacts.{all_both, all_map}
-use Rattle.lt_laws.proofs.ReadLaws.{all_tests, or_left}
-use Rattle.lt_laws.proofs.ListFacts.{all_flat, all_of_map, all_to_map, any_mapped}
+use Rattle.lt_codecs.proofs.ListFacts.{all_both, all_map, all_of_map, all_to_map}
+use Rattle.lt_laws.proofs.ReadLaws.{all_tests}
+use Rattle.lt_laws.proofs.ListFacts.{all_flat, any_mapped}
 use Rattle.lt_laws.proofs.NewDelta.{tests_hold}
 use Rattle.lt_laws.proofs.DurableFacts.{named_at}
+use Rattle.lt_lemmas.proofs.SnapshotLaws.{or_left}
 
 -- ---- bundles, one behind the other
 

@@ -14,6 +14,7 @@ use Rattle.lt_laws.proofs.CarrierLaws.{TailOf, tail_here, tail_next}
 use Rattle.lt_laws.proofs.ListFacts.{all_at, contains_front, contains_rest, flat_held, held_is_found}
 use Rattle.lt_laws.proofs.ScanLemmas.{kind_for}
 use Rattle.lt_terms.specs.declared.Rank.TheVariants as rank
+use Rattle.lt_laws.proofs.FlattenLemmas.{path_self}
 
 -- ---- leaves by their path
 
@@ -150,10 +151,6 @@ path_is [] [] h = refl
 path_is [] (b ∷ q) h = absurd (false≢true h)
 path_is (a ∷ p) [] h = absurd (false≢true h)
 path_is (a ∷ p) (b ∷ q) h = let k = and_parts (a == b) (same_path p q) h in ap₂ (λ (x : ℕ) (xs : List ℕ). x ∷ xs) (eqb-true a b k.0) (path_is p q k.1)
-
-path_self : (p : List ℕ) → same_path p p ≡ true
-path_self [] = refl
-path_self (a ∷ p) = and_from (a == a) (same_path p p) (eq-eqb a a refl) (path_self p)
 
 -- the same leaf is one of the same column, at the same path
 pub leaf_is : (a b : Leaf) → same_leaf a b ≡ true → (a.column ≡ b.column) × (a.path ≡ b.path)

@@ -12,7 +12,7 @@ all_at P [] x a (k, l, e) = absurd (omega (arith, l))
 all_at P (y ∷ ys) x a (zero, l, e) = subst P e a.0
 all_at P (y ∷ ys) x a (suc k, l, e) = all_at P ys x a.1 (k, omega (arith, l), e)
 
-contains_cons : {A : Type 0} (y : A) (xs : List A) (x : A) → Contains xs x → Contains (y ∷ xs) x
+pub contains_cons : {A : Type 0} (y : A) (xs : List A) (x : A) → Contains xs x → Contains (y ∷ xs) x
 contains_cons y xs x (k, l, e) = (suc k, omega (arith, l), e)
 
 pub contains_front : {A : Type 0} (xs ys : List A) (x : A) → Contains xs x → Contains (xs ++ ys) x
@@ -36,14 +36,6 @@ held_one x y (suc k, l, e) = absurd (omega (arith, l))
 pub all_flat : {A : Type 0} (P : A → Type 0) (xss : List (List A)) → AllByRecursion (AllByRecursion P) xss → AllByRecursion P (flat_map (λ xs. xs) xss)
 all_flat P [] a = tt
 all_flat P (xs ∷ xss) a = all_append P xs (flat_map (λ xs. xs) xss) a.0 (all_flat P xss a.1)
-
-pub all_to_map : {A B : Type 0} (P : B → Type 0) (f : A → B) (xs : List A) → AllByRecursion (λ x. P (f x)) xs → AllByRecursion P (map f xs)
-all_to_map P f [] a = tt
-all_to_map P f (x ∷ xs) a = (a.0, all_to_map P f xs a.1)
-
-pub all_of_map : {A B : Type 0} (P : B → Type 0) (f : A → B) (xs : List A) → AllByRecursion P (map f xs) → AllByRecursion (λ x. P (f x)) xs
-all_of_map P f [] a = tt
-all_of_map P f (x ∷ xs) a = (a.0, all_of_map P f xs a.1)
 
 -- ---- what is found
 

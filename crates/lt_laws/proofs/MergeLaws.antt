@@ -167,7 +167,7 @@ merge-alone vs h = sym (merge-only (vs ∷ []) vs (record { ordered = h; first =
 abbrev pub none : Option RowVersion
 none = None
 
-none-either : (b : Bool) → none ≡ cond b none none
+pub none-either : (b : Bool) → none ≡ cond b none none
 none-either true = refl
 none-either false = refl
 

@@ -23,7 +23,7 @@ use Rattle.lt_lemmas.proofs.PumpLaws.{Name}
 use Rattle.lt_laws.proofs.ListFacts.{all_at, from_filter_map, from_map, held_is_found}
 use Rattle.lt_laws.proofs.StoreKinds.{store_all}
 use Rattle.lt_laws.proofs.TableGrowth.{are_columns, carrier_has, cols, has_some, leaf_in_cols}
-use Rattle.lt_laws.proofs.ReadLaws.{all_tests, are_fine, live_numbers, or_right, rises_kept}
+use Rattle.lt_laws.proofs.ReadLaws.{all_tests, are_fine, live_numbers, rises_kept}
 use Rattle.lt_laws.proofs.WidenedStore.{known_carriers}
 use Rattle.lt_laws.proofs.LeafLaws.{IsMarked, all_marked, leaf_same}
 use Rattle.lt_laws.proofs.ScanLaws.{any_of, seen_from}
@@ -35,6 +35,7 @@ use Rattle.lt_laws.proofs.ScanLemmas.{seen-key}
 use Rattle.lt_laws.proofs.WidenedRows.{sound_shape}
 use Rattle.lt_laws.proofs.SeenLaws.{seen_lawful}
 use Rattle.lt_laws.proofs.ShelfGrowth.{made_part, pending_ordered}
+use Rattle.lt_lemmas.proofs.SnapshotLaws.{or_right}
 
 -- ---- the carriers are a layout, and cover themselves
 

@@ -13,17 +13,19 @@ use Rattle.lt_tables.specs.Schema.{Catalogue, Column, IsCatalogue, Registered, T
 use Rattle.lt_tables.specs.Fair.{has_change_shape}
 use Rattle.lt_tables.specs.Row.{Row, after_change, read_row, row_by}
 use Rattle.lt_tables.specs.Version.{carried, read_cells}
-use Rattle.lt_codecs.proofs.ListFacts.{all_append, all_both, all_map}
+use Rattle.lt_codecs.proofs.ListFacts.{all_append, all_both, all_map, all_of_map}
 use Rattle.lt_lemmas.proofs.TableLaws.{FineColumns, IsFineKind, IsFineTable, fine_table}
 use Rattle.lt_lemmas.proofs.ConversionLemmas.{is_rising}
 use Rattle.lt_lemmas.proofs.ListFacts.{all_from, find_all}
-use Rattle.lt_lemmas.proofs.TakenLaws.{left, right}
-use Rattle.lt_laws.proofs.ListFacts.{all_at, all_of_map, contains_front, contains_rest}
+use Rattle.lt_laws.proofs.ListFacts.{all_at, contains_front, contains_rest}
 use Rattle.lt_laws.proofs.TableLaws.{carrier_carries, carrier_stands, carrier_takes}
 use Rattle.lt_laws.proofs.ScanLemmas.{AreFine, IsCarried, IsWithin, kind_for, read-carried}
 use Rattle.lt_laws.proofs.CarrierLaws.{shape_within}
 use Rattle.lt_laws.proofs.TakenLaws.{Passes, change_shaped}
 use Rattle.lt_terms.specs.declared.Op.TheVariants as ops
+use Rattle.lt_lemmas.proofs.SnapshotLaws.{or_left, or_right}
+use Rattle.lt_store_codecs.proofs.ManifestLaws.{all_above}
+use Rattle.lt_lemmas.proofs.PointLaws.{left, right}
 
 -- ---- numbers that rise
 
@@ -48,11 +50,6 @@ rises_kept_by p low n ns false l up = rises_lower low n (filter p ns) (omega (ar
 pub rises_kept : (p : ℕ → Bool) (low : ℕ) (ns : List ℕ) → IsTrue (rises_above low ns) → IsTrue (rises_above low (filter p ns))
 rises_kept p low [] up = refl
 rises_kept p low (n ∷ ns) up = let q = and_parts (nat_lt low n) (rises_above n ns) up in rises_kept_by p low n ns (p n) (ltb-true low n q.0) (rises_kept p n ns q.1)
-
-all_above : (low : ℕ) (ns : List ℕ) → IsTrue (rises_above low ns) → AllByRecursion (λ n. low < n) ns
-all_above low [] up = tt
-all_above low (n ∷ ns) up = let p = and_parts (nat_lt low n) (rises_above n ns) up in let l : low < n = ltb-true low n p.0 in
-    (l, all_map (λ m. n < m) (λ m. low < m) ns (λ m h. omega (arith, l, h)) (all_above n ns p.1))
 
 -- ---- the numbers of a table's columns
 
@@ -97,14 +94,6 @@ are_fine t f = (carriers_rise t 0 (live_numbers t) (rises_kept (column_live t) 0
 
 abbrev pub has_number : ℕ → List ℕ → Bool
 has_number n ns = list_any (λ m. m == n) ns
-
-pub or_left : (a b : Bool) → a ≡ true → (a || b) ≡ true
-or_left true b h = refl
-or_left false b h = cc
-
-pub or_right : (a b : Bool) → b ≡ true → (a || b) ≡ true
-or_right true b h = refl
-or_right false b h = h
 
 put_found_by : (n m : ℕ) (ms : List ℕ) (b d : Bool) → (n == m) ≡ b → has_number n (put_number n ms) ≡ true → has_number n (cond b (m ∷ ms) (cond d (n ∷ m ∷ ms) (m ∷ put_number n ms))) ≡ true
 put_found_by n m ms true d e ih = or_left (m == n) (has_number n ms) (eq-eqb m n (sym (eqb-true n m e)))

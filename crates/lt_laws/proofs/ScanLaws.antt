@@ -1,6 +1,6 @@
 -- A good session holds, of each key in a safe interval, what its changes make: the partition's stored versions and the pending ones over them.
 use Rattle.std.proofs.Common.{Bool, List, [], ap, arith, cond, drop, eq-eqb, eqb-true, false, inl, inr, refl, subst, suc, sym, take, true, zero, ℕ, ◌++◌, ◌+◌, ◌<◌, ◌∙◌, ◌∷◌, ◌≡◌, ◌≤◌}
-use Rattle.std.specs.Prelude.{Contains, IsTrue, None, Option, Some, find, map, max, nat_le, nat_lt, not, option_map, slice_get, unwrap_or, zip, ◌&&◌, ◌==◌}
+use Rattle.std.specs.Prelude.{Contains, IsTrue, None, Option, Some, find, map, nat_le, nat_lt, not, option_map, slice_get, unwrap_or, zip, ◌&&◌, ◌==◌}
 use Rattle.std.specs.Option.{option_or}
 use Rattle.std.specs.List.{AllByRecursion, list_any}
 use Rattle.std.proofs.lemmas.Bool.{and_from, and_parts, false≢true}
@@ -17,16 +17,15 @@ use Rattle.lt_storage.specs.Store.{Durable, IsLawfulPart, carried_versions, delt
 use Rattle.lt_storage.specs.Bundle.{has_table}
 use Rattle.lt_machine.specs.Machine.{State, cat_of, checkpoint_at, checkpoints_meeting, first_below, least, ranges_of, seen_pending}
 use Rattle.lt_machine.specs.Sound.{AreAtPlaces, FrontsFrom, IsGood, PendingOf, PendingOfAll, SoundPart, SoundParts, held_versions, items_before, passed, row_cells, source_of}
-use Rattle.lt_codecs.proofs.ListFacts.{all_append, all_both, all_map, all_rest}
+use Rattle.lt_codecs.proofs.ListFacts.{all_append, all_both, all_map, all_rest, none_mapped}
 use Rattle.lt_lemmas.proofs.MergeLaws.{clip-ordered, named}
 use Rattle.lt_lemmas.proofs.RangeLaws.{IsOutOf, IsSole, tile_sole}
-use Rattle.lt_lemmas.proofs.SnapshotLaws.{or_rest}
+use Rattle.lt_lemmas.proofs.SnapshotLaws.{or_left, or_rest, or_right}
 use Rattle.lt_lemmas.proofs.SoundLaws.{meets-by, pick}
 use Rattle.lt_lemmas.proofs.ListFacts.{all_contained, find_held, mapped_some}
 use Rattle.lt_lemmas.proofs.PointLaws.{changes_of-append, itself, same}
 use Rattle.lt_laws.proofs.MergeLaws.{find-clip, find-puts, merge-first, merge-ordered}
-use Rattle.lt_laws.proofs.SoundLaws.{at-least, before-take, checkpoint-is, in-some-part, kept-by, le-false, le-true, least-all, none-mapped, not-found, open-items}
-use Rattle.lt_laws.proofs.ReadLaws.{or_left, or_right}
+use Rattle.lt_laws.proofs.SoundLaws.{at-least, before-take, checkpoint-is, in-some-part, kept-by, le-false, le-true, least-all, max-other, not-found, open-items}
 use Rattle.lt_laws.proofs.FairLaws.{fair_in_range}
 use Rattle.lt_laws.proofs.FrontLaws.{rest_above}
 use Rattle.lt_laws.proofs.ListFacts.{all_at, contains_front, contains_rest, from_filter_map, held_is_found, in_filter_map}
@@ -136,7 +135,7 @@ part_of_key cat source cs fs s table key i t (p ∷ ps) (r ∷ rs) (names ∷ re
     (λ h. part_here cat source cs fs s table key i t p r names ps rs rest a.0 b.0 (o.0 h) safe.0 h)
     (λ h. part_later cat source cs fs s table key i t p r names ps rs rest h (part_of_key cat source cs fs s table key i t ps rs rest a.1 b.1 o.1 safe.1 (or_rest (in_range key r) (list_any (λ (x : Part × Range). in_range key x.1) (zip ps rs)) h e)))
 
-safe_parts : (s : State) (i : Range) (t n : ℕ) (ps : List Part) (rs : List Range)
+pub safe_parts : (s : State) (i : Range) (t n : ℕ) (ps : List Part) (rs : List Range)
     → find (λ x. meets x.1.0 i && nat_lt x.1.1 t) (numbered_from n (zip rs (map (λ x. checkpoint_at s.streams x.0 x.1) (zip ps rs)))) ≡ None → AllByRecursion (IsSafe s i t) (zip ps rs)
 safe_parts s i t n [] rs e = tt
 safe_parts s i t n (p ∷ ps) [] e = tt
@@ -149,7 +148,7 @@ any_of test [] x h e = absurd (omega (arith, h.1))
 any_of test (y ∷ ys) x (zero, l, f) e = or_left (test y) (list_any test ys) (ap test f ∙ e)
 any_of test (y ∷ ys) x (suc k, l, f) e = or_right (test y) (list_any test ys) (any_of test ys x (k, omega (arith, l), f) e)
 
-in_a_part : (key : List ℕ) (ps : List Part) → IsTrue (tile (map (λ p. p.low) ps)) → list_any (λ x. in_range key x.1) (zip ps (part_ranges ps)) ≡ true
+pub in_a_part : (key : List ℕ) (ps : List Part) → IsTrue (tile (map (λ p. p.low) ps)) → list_any (λ x. in_range key x.1) (zip ps (part_ranges ps)) ≡ true
 in_a_part key ps t = in-some-part key (list_any (λ x. in_range key x.1) (zip ps (part_ranges ps)) ≡ true) ps t
     (all_map (Contains (zip ps (part_ranges ps))) (λ x. in_range key x.1 ≡ true → list_any (λ x. in_range key x.1) (zip ps (part_ranges ps)) ≡ true) (zip ps (part_ranges ps))
     (λ x h e. any_of (λ (x : Part × Range). in_range key x.1) (zip ps (part_ranges ps)) x h e) (all_contained (zip ps (part_ranges ps))))
@@ -228,9 +227,6 @@ record IsKeyIn (t : Table) (source : List Change) (key : List ℕ) : Type 0 wher
 pub of_at : (table : ℕ) (key : List ℕ) (source : List Change) (c : Change) → AreOf table (changes_to key source) → Contains source c → change_key c ≡ key → c.table ≡ table
 of_at table key source c a h e = all_at (λ c. c.table ≡ table) (changes_to key source) c a (in-filter (λ c. same_key (change_key c) key) source c h (ap (λ (k : List ℕ). same_key k key) e ∙ itself key))
 
-le_max : (t a b : ℕ) → t ≤ max a b → a < t → t ≤ b
-le_max t a b h l = omega arith
-
 key_held : (feed : Feed) (fs : List (Header × List Item)) (s : State) (t : Table) (key : List ℕ) (i : Range) (at : ℕ) (lists : List (List RowVersion)) → IsGood feed s fs → table_numbered (cat_of s) t.number ≡ Some t
     → IsKeyIn t (source_of fs) key → (p : PartOf (cat_of s) (source_of fs) (passed fs s.streams) fs s t.number key i at lists) → in_range key i ≡ true
     → KeyHeld (cat_of s) (source_of fs) t.number key s.durable.minimum p.part.resume at (merge lists) (clip p.range (seen_pending (source_of fs) (cat_of s) p.names t.number)) (stored s.durable p.part p.range t.number)
@@ -259,7 +255,7 @@ key_held feed fs s t key i at lists good known k p inside =
           (λ d.
           let late : p.part.resume < c.ts = le-false c.ts p.part.resume d in
           let safe : at ≤ checkpoint_at s.streams p.part p.range = p.safe (meets-by key p.range i p.within inside) in
-          let behind : at ≤ least (checkpoints_meeting s.streams p.range) = le_max at p.part.resume (least (checkpoints_meeting s.streams p.range)) safe (omega (arith, late, up)) in
+          let behind : at ≤ least (checkpoints_meeting s.streams p.range) = max-other at p.part.resume (least (checkpoints_meeting s.streams p.range)) safe (omega (arith, late, up)) in
           let was : Contains (passed fs s.streams) c = all_at (IsPassed p.range at (passed fs s.streams)) source c (passed_all feed cat p.range at 0 fs s.streams good.fronts.each good.ready.places (least-all at (checkpoints_meeting s.streams p.range) behind)) h within up in
           elim (p.pending.none_lost c was within late) [
             | inl n ↦ inl (in-filter (λ v. in_range v.key p.range) pend (seen cat c)
@@ -290,7 +286,7 @@ key_reads feed fs s t key i at good known low safe of has inside =
     let cs = passed fs s.streams in
     let lists = parts_held cat source s.durable t.number ps rs s.pending in
     let tiles : IsTrue (tile (map (λ p. p.low) ps)) = tiles_of s.durable good.lawful in
-    let p = part_of_key cat source cs fs s t.number key i at ps rs s.pending good.sound.parts good.ready.pending (tile_sole key (map (λ p. p.low) ps) tiles) (safe_parts s i at 0 ps rs (none-mapped (λ x. (x.0, x.1.1)) _ safe)) (in_a_part key ps tiles) in
+    let p = part_of_key cat source cs fs s t.number key i at ps rs s.pending good.sound.parts good.ready.pending (tile_sole key (map (λ p. p.low) ps) tiles) (safe_parts s i at 0 ps rs (none_mapped (λ x. (x.0, x.1.1)) _ safe)) (in_a_part key ps tiles) in
     ap (λ (vs : List RowVersion). option_map (λ (v : RowVersion). v.cells) (find (λ v. same_key v.key key) (asof at vs))) (held_parts feed fs s t.number good)
     ∙ held_reads cat source t.number key s.durable.minimum p.part.resume at (merge lists) (clip p.range (seen_pending source cat p.names t.number)) (stored s.durable p.part p.range t.number) low
     (source_in_time feed cat fs key good.fronts) of (key_held feed fs s t key i at lists good known (record { of_table = of; has = has }) p inside)

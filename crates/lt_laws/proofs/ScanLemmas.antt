@@ -1,20 +1,19 @@
 -- What is stored of the changes of a table reads as the rows that they make.
-use Rattle.std.proofs.Common.{Equal, Greater, Less, List, Ordering, [], ap, arith, eq-eqb, eqb-true, false, inl, inr, le-ltb, leb-false, leb-true, lt-ltb, ltb-true, refl, subst, sym, true, ℕ, ◌++◌, ◌∙◌, ◌∷◌, ◌≡◌}
+use Rattle.std.proofs.Common.{List, [], ap, arith, eq-eqb, eqb-true, false, inl, inr, le-ltb, leb-false, leb-true, lt-ltb, ltb-true, refl, subst, sym, true, ℕ, ◌++◌, ◌∙◌, ◌∷◌, ◌≡◌}
 use Rattle.std.specs.Prelude.{Bool, Contains, IsTrue, None, Option, Some, cond, filter, find, fold, map, nat_le, nat_lt, option_and_then, option_map, unwrap_or, ◌&&◌, ◌<◌, ◌==◌, ◌||◌, ◌≤◌, ◌⊎◌}
 use Rattle.std.specs.Option.{option_map_or, option_or}
 use Rattle.std.specs.List.{AllByRecursion, list_all}
 use Rattle.std.proofs.lemmas.Bool.{and_from, and_parts, false≢true, lt-leb}
 use Rattle.std.specs.Ordering.{is_eq, is_lt}
-use Rattle.std.proofs.lemmas.Map.Lookups.{exact_bytes}
 use Rattle.std.proofs.lemmas.Cmp.{nat_list_cmp_total, tied_itself}
 use Rattle.std.proofs.lemmas.List.Elements.{Contains-append_cases, Contains-append_left, Contains-append_right, Contains-push, Contains-push_cases}
-use Rattle.lt_terms.specs.Value.{Value, bool_value, bytes_value, int_value, is_value, null_value, rises_above, rises_strictly, struct_value, text_value}
-use Rattle.lt_terms.specs.Layout.{Cell, Leaf, bool_cell, cell_of, field_leaves, flatten, is_structure, is_unset, layout_of, leaf_cell, leaves, setting, unflatten, unset, value_along}
+use Rattle.lt_terms.specs.Value.{Value, is_value, rises_above, rises_strictly}
+use Rattle.lt_terms.specs.Layout.{Cell, Leaf, field_leaves, flatten, is_unset, layout_of, leaf_cell, leaves, setting, unflatten, unset, value_along}
 use Rattle.lt_terms.specs.declared.Op.{Op}
 use Rattle.lt_terms.specs.Log.{Change, change_key}
 use Rattle.lt_terms.specs.Kind.{FieldKinds, Kind, enumeration, field_kind, has_shape, nesting, no_kinds, plain, structured}
 use Rattle.lt_terms.specs.Conversion.{conv}
-use Rattle.lt_terms.specs.Key.{below, bytes_cmp, same_key}
+use Rattle.lt_terms.specs.Key.{below, same_key}
 use Rattle.lt_tables.specs.Version.{RowVersion, asof, carried, effect, effect_by, effect_of, is_ordered, overlay, read_cells, seen, stands_before}
 use Rattle.lt_tables.specs.Row.{Row, after_change, is_in_time, read_row, row_after, row_at, row_by}
 use Rattle.lt_tables.specs.Schema.{Catalogue, Column, Table, carrier, carrier_layout, carriers, carriers_of, column_live, column_numbers, fallback, table_numbered}
@@ -23,12 +22,13 @@ use Rattle.lt_machine.specs.Sound.{row_cells, up_to_ts}
 use Rattle.lt_machine.specs.Laws.{is_struct_where, lies_within}
 use Rattle.lt_lemmas.proofs.ConversionLemmas.{is_rising}
 use Rattle.lt_lemmas.proofs.RowLemmas.{reads_in_order}
-use Rattle.lt_lemmas.proofs.MergeLaws.{Above, filter-ordered, named, ordered-above, ordered-cons, ordered-tail}
-use Rattle.lt_laws.proofs.FlattenLemmas.{flattens_back-columns}
+use Rattle.lt_lemmas.proofs.MergeLaws.{Above, filter-ordered, named, ordered-above, ordered-cons, ordered-tail, same-key}
+use Rattle.lt_laws.proofs.FlattenLemmas.{cell_set, flattens_back-columns}
 use Rattle.lt_laws.proofs.ConversionLemmas.{conv_shape, conversion_laws}
 use Rattle.lt_laws.proofs.ListLaws.{asof-effect}
 use Rattle.lt_laws.proofs.MergeLaws.{ordered-unique}
 use Rattle.lt_terms.specs.declared.Op.TheVariants as ops
+use Rattle.lt_lemmas.proofs.SnapshotLaws.{or_right}
 
 -- ---- settings over settings
 
@@ -40,15 +40,6 @@ setting_by false v o p = refl
 pub setting-append : (n : ℕ) (a b : List (ℕ × Value)) → setting n (a ++ b) ≡ option_or (setting n a) (setting n b)
 setting-append n [] b = refl
 setting-append n (s ∷ a) b = ap (cond (n == s.0) (Some s.1)) (setting-append n a b) ∙ setting_by (n == s.0) s.1 (setting n a) (setting n b)
-
-cell_set : (b : Bool) (w : Value) → is_unset (cond b (bool_cell (is_structure w)) (cell_of w)) ≡ false
-cell_set true w = refl
-cell_set false null_value = refl
-cell_set false (bool_value b) = refl
-cell_set false (int_value z) = refl
-cell_set false (text_value t) = refl
-cell_set false (bytes_value t) = refl
-cell_set false (struct_value fs) = refl
 
 -- the cell of a value is set
 pub leaf_cell-set : (l : Leaf) (v : Value) → is_unset (leaf_cell l v) ≡ false
@@ -335,19 +326,11 @@ row-between source key m t h r = reads_in_order source key t r ∙ ap row_after 
 abbrev pub between_of : List ℕ → ℕ → ℕ → List RowVersion → List RowVersion
 between_of key m t vs = filter (λ v. same_key v.key key && (nat_lt m v.ts && nat_le v.ts t)) vs
 
-tied : (o : Ordering) → is_eq o ≡ true → o ≡ Equal
-tied Less h = cc
-tied Equal h = refl
-tied Greater h = cc
-
-pub the_key : (a b : List ℕ) → same_key a b ≡ true → a ≡ b
-the_key a b h = exact_bytes a b (tied (bytes_cmp a b) h)
-
 -- of one key a version stands before the earlier ones
 falls : (key : List ℕ) (v w : RowVersion) → same_key v.key key ≡ true → same_key w.key key ≡ true → IsTrue (stands_before v w) → w.ts < v.ts
 falls key v w h i s =
     let b : below key key ≡ false = ap is_lt (tied_itself nat_list_cmp_total key) in
-    let e : (below key key || (same_key key key && nat_lt w.ts v.ts)) ≡ true = ap (λ x. below key x || (same_key key x && nat_lt w.ts v.ts)) (sym (the_key w.key key i)) ∙ ap (λ x. below x w.key || (same_key x w.key && nat_lt w.ts v.ts)) (sym (the_key v.key key h)) ∙ s in
+    let e : (below key key || (same_key key key && nat_lt w.ts v.ts)) ≡ true = ap (λ x. below key x || (same_key key x && nat_lt w.ts v.ts)) (sym (same-key w.key key i)) ∙ ap (λ x. below x w.key || (same_key x w.key && nat_lt w.ts v.ts)) (sym (same-key v.key key h)) ∙ s in
     ltb-true w.ts v.ts (and_parts (same_key key key) (nat_lt w.ts v.ts) (ap (λ x. x || (same_key key key && nat_lt w.ts v.ts)) (sym b) ∙ e)).1
 
 none_by : (key : List ℕ) (m t : ℕ) (v w : RowVersion) (rest : List RowVersion) (b : Bool) → same_key w.key key ≡ b → same_key v.key key ≡ true → v.ts ≤ m → IsTrue (stands_before v w) → rest ≡ []
@@ -430,7 +413,7 @@ key_itself k = ap is_eq (tied_itself nat_list_cmp_total k)
 later_by : (w v : RowVersion) (o p : Option RowVersion) (b : Bool) → named v.key v.ts w ≡ b → IsTrue (stands_before w v) → o ≡ p → cond b (Some w) o ≡ p
 later_by w v o p false e s h = h
 later_by w v o p true e s h = let n = and_parts (same_key v.key w.key) (w.ts == v.ts) e in let t = eqb-true w.ts v.ts n.1 in
-    let f = falls v.key w v (ap (λ k. same_key k v.key) (sym (the_key v.key w.key n.0)) ∙ key_itself v.key) (key_itself v.key) s in absurd (omega arith)
+    let f = falls v.key w v (ap (λ k. same_key k v.key) (sym (same-key v.key w.key n.0)) ∙ key_itself v.key) (key_itself v.key) s in absurd (omega arith)
 
 -- what an ordered list holds is found by its name
 pub held-found : (vs : List RowVersion) (v : RowVersion) → IsTrue (is_ordered vs) → Contains vs v → find (named v.key v.ts) vs ≡ Some v
@@ -442,7 +425,7 @@ held-found (w ∷ vs) v o h = elim (held_cases w vs v h) [
 
 pub found_too : (key : List ℕ) (t : ℕ) (vs ws : List RowVersion) (v : RowVersion) → IsTrue (is_ordered ws) → ((v : RowVersion) → Contains vs v → Contains ws v) → find (named key t) vs ≡ Some v → find (named key t) ws ≡ Some v
 found_too key t vs ws v o f e = let r = found-held (named key t) vs v e in let n = and_parts (same_key key v.key) (v.ts == t) r.1 in
-    ap (λ k. find (named k t) ws) (the_key key v.key n.0) ∙ ap (λ u. find (named v.key u) ws) (sym (eqb-true v.ts t n.1)) ∙ held-found ws v o (f v r.0)
+    ap (λ k. find (named k t) ws) (same-key key v.key n.0) ∙ ap (λ u. find (named v.key u) ws) (sym (eqb-true v.ts t n.1)) ∙ held-found ws v o (f v r.0)
 
 same_by : (key : List ℕ) (t : ℕ) (vs ws : List RowVersion) (x y : Option RowVersion) → find (named key t) vs ≡ x → find (named key t) ws ≡ y → IsTrue (is_ordered vs) → IsTrue (is_ordered ws)
     → ((v : RowVersion) → Contains vs v → Contains ws v) → ((v : RowVersion) → Contains ws v → Contains vs v) → find (named key t) vs ≡ find (named key t) ws
@@ -524,10 +507,6 @@ above_push : (v w : RowVersion) (vs : List RowVersion) → Above v vs → IsTrue
 above_push v w [] a s = (s, tt)
 above_push v w (x ∷ vs) a s = (a.0, above_push v w vs a.1 s)
 
-or_right : (a b : Bool) → b ≡ true → (a || b) ≡ true
-or_right true b h = refl
-or_right false b h = h
-
 before_later : (key : List ℕ) (v w : RowVersion) → v.key ≡ key → w.key ≡ key → w.ts < v.ts → IsTrue (stands_before v w)
 before_later key v w e f l = or_right (below v.key w.key) (same_key v.key w.key && nat_lt w.ts v.ts)
     (and_from (same_key v.key w.key) (nat_lt w.ts v.ts) (ap (same_key v.key) (f ∙ sym e) ∙ key_itself v.key) (lt-ltb w.ts v.ts l))
@@ -560,7 +539,7 @@ keys_by key c cs false e h = h
 
 pub keys_to : (key : List ℕ) (source : List Change) → KeysAre key (changes_to key source)
 keys_to key [] = tt
-keys_to key (c ∷ cs) = keys_by key c (changes_to key cs) (same_key (change_key c) key) (the_key (change_key c) key) (keys_to key cs)
+keys_to key (c ∷ cs) = keys_by key c (changes_to key cs) (same_key (change_key c) key) (same-key (change_key c) key) (keys_to key cs)
 
 keys_kept : (p : Change → Bool) (key : List ℕ) (cs : List Change) → KeysAre key cs → KeysAre key (filter p cs)
 keys_kept p key [] h = tt
@@ -586,7 +565,7 @@ held_is_back : (cat : Catalogue) (source : List Change) (key : List ℕ) (m t : 
 held_is_back cat source key m t vs only v h =
     let f = from-filter (λ (v : RowVersion). same_key v.key key && (nat_lt m v.ts && nat_le v.ts t)) vs v h in
     let p = and_parts (same_key v.key key) (nat_lt m v.ts && nat_le v.ts t) f.1 in let q = and_parts (nat_lt m v.ts) (nat_le v.ts t) p.1 in
-    let r : (c : Change) × Contains source c × (v ≡ seen cat c) = only v f.0 (the_key v.key key p.0) (ltb-true m v.ts q.0) (leb-true v.ts t q.1) in
+    let r : (c : Change) × Contains source c × (v ≡ seen cat c) = only v f.0 (same-key v.key key p.0) (ltb-true m v.ts q.0) (leb-true v.ts t q.1) in
     let k : same_key (change_key r.0) key ≡ true = ap (λ k. same_key k key) (sym (seen-key cat r.0) ∙ ap (λ (w : RowVersion). w.key) (sym r.2)) ∙ p.0 in
     let u : r.0.ts ≡ v.ts = sym (seen-ts cat r.0) ∙ ap (λ (w : RowVersion). w.ts) (sym r.2) in
     let w : (nat_lt m r.0.ts && nat_le r.0.ts t) ≡ true = ap (λ x. nat_lt m x && nat_le x t) u ∙ p.1 in
@@ -602,7 +581,7 @@ back_is_held cat source key m t vs all v h =
     let k : same_key (seen cat r.0).key key ≡ true = ap (λ k. same_key k key) (seen-key cat r.0) ∙ g.1 in
     let w : (nat_lt m (seen cat r.0).ts && nat_le (seen cat r.0).ts t) ≡ true = ap (λ x. nat_lt m x && nat_le x t) (seen-ts cat r.0) ∙ f.1 in
     subst (λ x. Contains (between_of key m t vs) x) (sym r.2) (in-filter (λ (v : RowVersion). same_key v.key key && (nat_lt m v.ts && nat_le v.ts t)) vs (seen cat r.0)
-    (all r.0 g.0 (the_key (change_key r.0) key g.1) (ltb-true m r.0.ts q.0) (leb-true r.0.ts t q.1)) (and_from (same_key (seen cat r.0).key key) _ k w))
+    (all r.0 g.0 (same-key (change_key r.0) key g.1) (ltb-true m r.0.ts q.0) (leb-true r.0.ts t q.1)) (and_from (same_key (seen cat r.0).key key) _ k w))
 
 pub between-seen : (cat : Catalogue) (source : List Change) (key : List ℕ) (m t : ℕ) (vs : List RowVersion) → IsTrue (is_ordered vs) → IsTrue (is_in_time key source) → OnlyChanges cat source key m t vs → AllChanges cat source key m t vs
     → between_of key m t vs ≡ seen_back cat (between m t (changes_to key source))

@@ -21,7 +21,6 @@ use Rattle.lt_machine.specs.Laws.{lies_within}
 use Rattle.lt_codecs.proofs.ListFacts.{all_map}
 use Rattle.lt_lemmas.proofs.ListFacts.{all_from, find_held}
 use Rattle.lt_lemmas.proofs.TableLaws.{IsFineTable, fine_table}
-use Rattle.lt_lemmas.proofs.TakenLaws.{left, right}
 use Rattle.lt_laws.proofs.CoerceLaws.{Cells, IsOfRank, beside, cell_as, cell_for, found_beside, is_the_unset, map_same, suits_rank, unset_to, with_own}
 use Rattle.lt_laws.proofs.ConversionLemmas.{rank_stays}
 use Rattle.lt_laws.proofs.LeafLaws.{AreColumns, IsMarked, Mark, all_marked, found_leaf, leaf_found, leaf_in, leaf_is, leaf_of}
@@ -34,6 +33,7 @@ use Rattle.lt_laws.proofs.WidenedRows.{carried_as, sound_sets, sound_shape}
 use Rattle.lt_laws.proofs.WidenedStore.{known_carriers}
 use Rattle.lt_terms.specs.declared.Rank.TheVariants as rank
 use Rattle.lt_terms.specs.declared.Op.TheVariants as ops
+use Rattle.lt_lemmas.proofs.PointLaws.{left, right}
 
 -- ---- cells under a layout, leaf by leaf
 
@@ -210,24 +210,24 @@ laid_agrees set a b = and_from _ _
 
 -- ---- the version that a fair change is seen as
 
-four : (n : ℕ) → length (u32 n) ≡ 4
-four n = refl
+pub length_u32 : (n : ℕ) → length (u32 n) ≡ 4
+length_u32 n = refl
 
-long_key : (c : Change) → 4 ≤ length (change_key c)
-long_key c = let l = length-append (u32 c.table) (flat_map part_bytes c.key) in let f = four c.table in omega (arith, l, f)
+pub long_key : (c : Change) → 4 ≤ length (change_key c)
+long_key c = let l = length-append (u32 c.table) (flat_map part_bytes c.key) in let f = length_u32 c.table in omega (arith, l, f)
 
 pub unset_all : (ls : List Leaf) → IsTrue (list_all is_unset (flatten ls []))
 unset_all [] = refl
 unset_all (l ∷ ls) = unset_all ls
 
-empty_set : {A : Type 0} (xs : List A) → length xs ≡ 0 → xs ≡ []
-empty_set [] e = refl
-empty_set (x ∷ xs) e = absurd (omega (arith, e))
+pub none_long : {A : Type 0} (xs : List A) → length xs ≡ 0 → xs ≡ []
+none_long [] e = refl
+none_long (x ∷ xs) e = absurd (omega (arith, e))
 
 none_deleted : (o : Op) (ls : List Leaf) (f : ℕ × Value → ℕ × Value) (set : List (ℕ × Value)) → (not (op_byte o == 3) || length set == 0) ≡ true → (not (is_delete o) || list_all is_unset (flatten ls (map f set))) ≡ true
 none_deleted ops.Insert ls f set h = refl
 none_deleted ops.Update ls f set h = refl
-none_deleted ops.Delete ls f set h = subst (λ (s : List (ℕ × Value)). IsTrue (list_all is_unset (flatten ls (map f s)))) (sym (empty_set set (eqb-true (length set) 0 h))) (unset_all ls)
+none_deleted ops.Delete ls f set h = subst (λ (s : List (ℕ × Value)). IsTrue (list_all is_unset (flatten ls (map f s)))) (sym (none_long set (eqb-true (length set) 0 h))) (unset_all ls)
 
 laid_seen : (cat : Catalogue) (t : Table) (set : List (ℕ × Value)) → IsFineTable t → AllByRecursion (IsSetIn t) set → AreLaid (layout_of (cols t)) (cell_in (set_at t set))
 laid_seen cat t set fine a =

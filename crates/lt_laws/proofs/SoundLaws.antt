@@ -1,7 +1,7 @@
 -- Laws of soundness: an opening finds a good state, a longer feed keeps it, and changes no row up to a safe moment.
 use Rattle.std.proofs.Common.{Bool, List, [], ap, ap₂, arith, cond, drop, false, le-ltb, length, lt-ltb, refl, subst, suc, sym, take, true, zero, ℕ, ◌++◌, ◌+◌, ◌<◌, ◌∙◌, ◌∷◌, ◌≡◌, ◌≤◌}
 use Rattle.std.specs.List.{AllByRecursion, cons_option, list_all}
-use Rattle.std.specs.Prelude.{Contains, IsTrue, None, Option, Some, filter, find, flat_map, fold, map, max, min, nat_le, nat_lt, not, option_map, zip, ⊤, ◌&&◌, ◌==◌, ◌||◌}
+use Rattle.std.specs.Prelude.{Contains, IsTrue, None, Option, Some, filter, find, flat_map, fold, map, max, min, nat_le, nat_lt, not, zip, ⊤, ◌&&◌, ◌==◌, ◌||◌}
 use Rattle.std.proofs.lemmas.List.{length-append, take-append-drop, take-append-le}
 use Rattle.std.proofs.lemmas.Bool.Decides.{nat_tests}
 use Rattle.std.specs.Option.{option_map_or}
@@ -18,34 +18,16 @@ use Rattle.lt_storage.specs.Store.{Durable, Stream, part_ranges}
 use Rattle.lt_machine.specs.Sound.{AreAtPlaces, Fronts, FrontsFrom, IsGood, IsPlace, IsSound, OpeningIsGood, PendingOfAll, SoundPart, SoundPartOf, SoundParts, SoundPoints, Stands, items_before, passed, row_cells, source_of}
 use Rattle.lt_machine.specs.Machine.{State, cat_of, checkpoint_at, checkpoints_meeting, first_below, is_usable, least, ranges_of, start_of, usable_point}
 use Rattle.lt_codecs.proofs.LogLaws.{frames_prefix_free}
-use Rattle.lt_lemmas.proofs.SoundLaws.{left, meets-by, pick, right}
-use Rattle.lt_lemmas.proofs.PointLaws.{changes_of-append}
+use Rattle.lt_lemmas.proofs.SoundLaws.{meets-by, pick}
+use Rattle.lt_lemmas.proofs.PointLaws.{changes_of-append, left, right}
 use Rattle.lt_laws.proofs.FairLaws.{AllInRange, ArePast, fair_in_range, row_stays}
 use Rattle.lt_laws.proofs.FrontLaws.{FrontsStay, checkpoint_rises, fronts_stay, rest_above}
 use Rattle.lt_terms.specs.declared.Format.TheVariants as format
+use Rattle.lt_codecs.proofs.ListFacts.{all_append, all_both, all_front, all_map, all_rest, none_mapped}
+use Rattle.lt_laws.proofs.ListFacts.{all_at, contains_front, contains_rest}
+use Rattle.lt_lemmas.proofs.ListFacts.{all_contained}
 
 -- ---- tests and lists
-
-all-append : {A : Type 0} (P : A → Type 0) (xs ys : List A) → AllByRecursion P xs → AllByRecursion P ys → AllByRecursion P (xs ++ ys)
-all-append P [] ys a b = b
-all-append P (x ∷ xs) ys a b = (a.0, all-append P xs ys a.1 b)
-
-all-front : {A : Type 0} (P : A → Type 0) (xs ys : List A) → AllByRecursion P (xs ++ ys) → AllByRecursion P xs
-all-front P [] ys a = tt
-all-front P (x ∷ xs) ys a = (a.0, all-front P xs ys a.1)
-
-all-rest : {A : Type 0} (P : A → Type 0) (xs ys : List A) → AllByRecursion P (xs ++ ys) → AllByRecursion P ys
-all-rest P [] ys a = a
-all-rest P (x ∷ xs) ys a = all-rest P xs ys a.1
-
-all-both : {A : Type 0} (P Q R : A → Type 0) (xs : List A) → ((x : A) → P x → Q x → R x) → AllByRecursion P xs → AllByRecursion Q xs → AllByRecursion R xs
-all-both P Q R [] f a b = tt
-all-both P Q R (x ∷ xs) f a b = (f x a.0 b.0, all-both P Q R xs f a.1 b.1)
-
-all-at : {A : Type 0} (P : A → Type 0) (xs : List A) (x : A) → AllByRecursion P xs → Contains xs x → P x
-all-at P [] x a (k, l, e) = absurd (omega (arith, l))
-all-at P (y ∷ ys) x a (zero, l, e) = subst P e a.0
-all-at P (y ∷ ys) x a (suc k, l, e) = all-at P ys x a.1 (k, omega (arith, l), e)
 
 last-all : {A : Type 0} (P : A → Type 0) (xs : List A) (x : A) → AllByRecursion P xs → last_of xs ≡ Some x → P x
 last-all P [] x a e = cc
@@ -62,9 +44,9 @@ filter-all P test (x ∷ xs) a = filter-all-by P test x (filter test xs) (test x
 
 -- ---- the items before a place
 
-starts : (i : Item) → 0 < length (spelled i)
+pub spelled_some : (i : Item) → 0 < length (spelled i)
 unfolding spelled
-starts i = omega arith
+spelled_some i = omega arith
 
 before-cons : (i : Item) (is js : List Item) (place offset : ℕ) → place < offset → cond (nat_lt place offset) (i ∷ is) js ≡ i ∷ is
 before-cons i is js place offset h = ap (λ b. cond b (i ∷ is) js) (lt-ltb place offset h)
@@ -78,7 +60,7 @@ before-take offset place (suc n) [] e = refl
 before-take offset place zero (i ∷ is) e = before-none (i ∷ items_before offset (place + length (spelled i)) is) place offset (omega (arith, e))
 before-take offset place (suc n) (i ∷ is) e =
     let l : length (spelled i ++ flat_map spelled (take n is)) ≡ length (spelled i) + length (flat_map spelled (take n is)) = length-append (spelled i) (flat_map spelled (take n is)) in
-    let s : 0 < length (spelled i) = starts i in
+    let s : 0 < length (spelled i) = spelled_some i in
     before-cons i (items_before offset (place + length (spelled i)) is) [] place offset (omega (arith, e, l, s))
     ∙ ap (λ x. i ∷ x) (before-take offset (place + length (spelled i)) n is (omega (arith, e, l)))
 
@@ -102,7 +84,7 @@ pub changes-take : (P : Change → Type 0) (items : List Item) (n : ℕ) → All
 changes-take P [] zero a = tt
 changes-take P [] (suc n) a = tt
 changes-take P (i ∷ is) zero a = tt
-changes-take P (i ∷ is) (suc n) a = all-append P (changes_in i) (changes_of (take n is)) (all-front P (changes_in i) (changes_of is) a) (changes-take P is n (all-rest P (changes_in i) (changes_of is) a))
+changes-take P (i ∷ is) (suc n) a = all_append P (changes_in i) (changes_of (take n is)) (all_front P (changes_in i) (changes_of is) a) (changes-take P is n (all_rest P (changes_in i) (changes_of is) a))
 
 max-low : (t u : ℕ) → t ≤ max t u
 max-low t u = grind (arith, nat_tests)
@@ -180,7 +162,7 @@ starts-by ps f points (Some p) e r lawful within places =
       refl,
       (n, at.0.0.1, at.0.0.2, at.0.0.3, sym (open-items f.0.format f.1 n r lawful)),
       subst (λ (x : List Item). AllByRecursion (FreeAt (zipped ps)) (changes_of x)) (sym b)
-          (all-both (λ c. in_range (change_key c) f.0.range ≡ true) (λ c. c.ts ≤ greatest_of (take n f.1)) (FreeAt (zipped ps)) (changes_of (take n f.1))
+          (all_both (λ c. in_range (change_key c) f.0.range ≡ true) (λ c. c.ts ≤ greatest_of (take n f.1)) (FreeAt (zipped ps)) (changes_of (take n f.1))
           (λ c w l. free-by (zipped ps) f.0.range p.1 c at.1 w (omega (arith, l, g))) low high),
     )
 
@@ -195,7 +177,7 @@ all-start feed cat ps n (f ∷ fs) [] a b = absurd b
 all-start feed cat ps n (f ∷ fs) (s ∷ ss) a b =
     let one = starts-by ps f s.points (usable_point ps f.0.range s.points) refl a.1 a.2.lawful (fair_in_range f.0 cat f.1 a.2.fair) b.1 in
     let others = all-start feed cat ps (n + 1) fs ss a.3 b.2 in
-    ((one.0, one.1, others.0), all-append (FreeAt (zipped ps)) (changes_of (items_before (start_of ps f.0 s.points).offset (header_length f.0) f.1)) (passed fs (started ps (map (λ f. f.0) fs) ss)) one.2 others.1)
+    ((one.0, one.1, others.0), all_append (FreeAt (zipped ps)) (changes_of (items_before (start_of ps f.0 s.points).offset (header_length f.0) f.1)) (passed fs (started ps (map (λ f. f.0) fs) ss)) one.2 others.1)
 
 free-tail : (x : Part × Range) (xs : List (Part × Range)) (cs : List Change) → AllByRecursion (FreeAt (x ∷ xs)) cs → AllByRecursion (FreeAt xs) cs
 free-tail x xs [] a = tt
@@ -206,7 +188,7 @@ none-pending d cs [] a = tt
 none-pending d cs (p ∷ ps) a = (
   record {
     are_changes = λ n k. absurd (omega (arith, k.1));
-    none_lost = λ c k w h. absurd ((all-at (FreeAt (zipped (p ∷ ps))) cs c a k).0 w h);
+    none_lost = λ c k w h. absurd ((all_at (FreeAt (zipped (p ∷ ps))) cs c a k).0 w h);
     ordered = refl;
   },
   none-pending d cs ps (free-tail (p, record { low = p.low; high = first_bound (map (λ p. p.low) ps) }) (zipped ps) cs a),
@@ -224,26 +206,6 @@ opening_is_good feed fs d short lawful fronts sound =
     }
 
 -- ---- a longer feed keeps a good state
-
-contains-cons : {A : Type 0} (y : A) (xs : List A) (x : A) → Contains xs x → Contains (y ∷ xs) x
-contains-cons y xs x (k, l, e) = (suc k, omega (arith, l), e)
-
-contains-front : {A : Type 0} (xs ys : List A) (x : A) → Contains xs x → Contains (xs ++ ys) x
-contains-front [] ys x (k, l, e) = absurd (omega (arith, l))
-contains-front (y ∷ xs) ys x (zero, l, e) = (zero, omega arith, e)
-contains-front (y ∷ xs) ys x (suc k, l, e) = contains-cons y (xs ++ ys) x (contains-front xs ys x (k, omega (arith, l), e))
-
-contains-rest : {A : Type 0} (xs ys : List A) (x : A) → Contains ys x → Contains (xs ++ ys) x
-contains-rest [] ys x k = k
-contains-rest (y ∷ xs) ys x k = contains-cons y (xs ++ ys) x (contains-rest xs ys x k)
-
-all-map : {A : Type 0} (P Q : A → Type 0) (xs : List A) → ((x : A) → P x → Q x) → AllByRecursion P xs → AllByRecursion Q xs
-all-map P Q [] f a = tt
-all-map P Q (x ∷ xs) f a = (f x a.0, all-map P Q xs f a.1)
-
-all-contained : {A : Type 0} (xs : List A) → AllByRecursion (Contains xs) xs
-all-contained [] = tt
-all-contained (x ∷ xs) = ((zero, omega arith, refl), all-map (Contains xs) (Contains (x ∷ xs)) xs (λ y k. contains-cons x xs y k) (all-contained xs))
 
 pub grows-same : (feed more : Feed) → Grows feed more → length feed ≡ length more
 grows-same [] [] g = refl
@@ -282,10 +244,10 @@ source-more cat [] (g ∷ gs) st = absurd st
 source-more cat (f ∷ fs) [] st = absurd st
 source-more cat (f ∷ fs) (g ∷ gs) st =
     let e : changes_of g.1 ≡ changes_of f.1 ++ changes_of st.0.0 = ap (λ x. changes_of x.1) (sym st.0.1) ∙ changes_of-append f.1 st.0.0 in
-    all-append (Contains (changes_of g.1 ++ source_of gs)) (changes_of f.1) (source_of fs)
-    (all-map (Contains (changes_of f.1)) (Contains (changes_of g.1 ++ source_of gs)) (changes_of f.1) (λ c k. contains-front (changes_of g.1) (source_of gs) c
-    (subst (λ (x : List Change). Contains x c) (sym e) (contains-front (changes_of f.1) (changes_of st.0.0) c k))) (all-contained (changes_of f.1)))
-    (all-map (Contains (source_of gs)) (Contains (changes_of g.1 ++ source_of gs)) (source_of fs) (λ c k. contains-rest (changes_of g.1) (source_of gs) c k) (source-more cat fs gs st.1))
+    all_append (Contains (changes_of g.1 ++ source_of gs)) (changes_of f.1) (source_of fs)
+    (all_map (Contains (changes_of f.1)) (Contains (changes_of g.1 ++ source_of gs)) (changes_of f.1) (λ c k. contains_front (changes_of g.1) (source_of gs) c
+    (subst (λ (x : List Change). Contains x c) (sym e) (contains_front (changes_of f.1) (changes_of st.0.0) c k))) (all_contained (changes_of f.1)))
+    (all_map (Contains (source_of gs)) (Contains (changes_of g.1 ++ source_of gs)) (source_of fs) (λ c k. contains_rest (changes_of g.1) (source_of gs) c k) (source-more cat fs gs st.1))
 
 abbrev pub Back : Range → ℕ → List Change → Change → Type 0
 Back r t cs c = in_range (change_key c) r ≡ true → c.ts ≤ t → Contains cs c
@@ -301,14 +263,14 @@ source-back cat r t (f ∷ fs) (g ∷ gs) st b =
     let e : changes_of g.1 ≡ changes_of f.1 ++ changes_of st.0.0 = ap (λ x. changes_of x.1) (sym st.0.1) ∙ changes_of-append f.1 st.0.0 in
     let w : AllInRange f.0.range (changes_of f.1 ++ changes_of st.0.0) = subst (λ (x : List Change). AllInRange f.0.range x) (changes_of-append f.1 st.0.0) (fair_in_range f.0 cat (f.1 ++ st.0.0) st.0.2) in
     let new : AllByRecursion (Back r t (changes_of f.1 ++ source_of fs)) (changes_of st.0.0)
-    = all-both (λ c. in_range (change_key c) f.0.range ≡ true) (λ c. checkpoint_of f.0 f.1 < c.ts) (Back r t (changes_of f.1 ++ source_of fs)) (changes_of st.0.0)
+    = all_both (λ c. in_range (change_key c) f.0.range ≡ true) (λ c. checkpoint_of f.0 f.1 < c.ts) (Back r t (changes_of f.1 ++ source_of fs)) (changes_of st.0.0)
     (λ c k h a l. let m : t ≤ checkpoint_of f.0 f.1 = b.0 (meets-by (change_key c) f.0.range r k a) in absurd (omega (arith, m, h, l)))
-    (all-rest (λ c. in_range (change_key c) f.0.range ≡ true) (changes_of f.1) (changes_of st.0.0) w) (rest_above f.0 cat f.1 st.0.0 st.0.2) in
+    (all_rest (λ c. in_range (change_key c) f.0.range ≡ true) (changes_of f.1) (changes_of st.0.0) w) (rest_above f.0 cat f.1 st.0.0 st.0.2) in
     let old : AllByRecursion (Back r t (changes_of f.1 ++ source_of fs)) (changes_of f.1)
-    = all-map (Contains (changes_of f.1)) (Back r t (changes_of f.1 ++ source_of fs)) (changes_of f.1) (λ c k a l. contains-front (changes_of f.1) (source_of fs) c k) (all-contained (changes_of f.1)) in
-    all-append (Back r t (changes_of f.1 ++ source_of fs)) (changes_of g.1) (source_of gs)
-    (subst (λ (x : List Change). AllByRecursion (Back r t (changes_of f.1 ++ source_of fs)) x) (sym e) (all-append (Back r t (changes_of f.1 ++ source_of fs)) (changes_of f.1) (changes_of st.0.0) old new))
-    (all-map (Back r t (source_of fs)) (Back r t (changes_of f.1 ++ source_of fs)) (source_of gs) (λ c k a l. contains-rest (changes_of f.1) (source_of fs) c (k a l)) (source-back cat r t fs gs st.1 b.1))
+    = all_map (Contains (changes_of f.1)) (Back r t (changes_of f.1 ++ source_of fs)) (changes_of f.1) (λ c k a l. contains_front (changes_of f.1) (source_of fs) c k) (all_contained (changes_of f.1)) in
+    all_append (Back r t (changes_of f.1 ++ source_of fs)) (changes_of g.1) (source_of gs)
+    (subst (λ (x : List Change). AllByRecursion (Back r t (changes_of f.1 ++ source_of fs)) x) (sym e) (all_append (Back r t (changes_of f.1 ++ source_of fs)) (changes_of f.1) (changes_of st.0.0) old new))
+    (all_map (Back r t (source_of fs)) (Back r t (changes_of f.1 ++ source_of fs)) (source_of gs) (λ c k a l. contains_rest (changes_of f.1) (source_of fs) c (k a l)) (source-back cat r t fs gs st.1 b.1))
 
 pub behind-more : (cat : Catalogue) (r : Range) (t : ℕ) (fs gs : List (Header × List Item)) → IsLonger cat fs gs → Behind r t fs → Behind r t gs
 behind-more cat r t [] [] st b = tt
@@ -342,7 +304,7 @@ points-more cat (f ∷ fs) (g ∷ gs) [] st b = absurd b
 points-more cat (f ∷ fs) (g ∷ gs) (s ∷ ss) st b = (
   b.0 ∙ ap (λ x. x.0.range.low) st.0.1,
   subst (λ (x : Header × List Item). AllByRecursion (λ p. IsPlace x p.0 p.1 × (header_length x.0 < p.0)) s.points) st.0.1
-      (all-map (λ p. IsPlace f p.0 p.1 × (header_length f.0 < p.0)) (λ p. IsPlace (with_more f st.0.0) p.0 p.1 × (header_length f.0 < p.0)) s.points (λ p k. (place-more f st.0.0 p.0 p.1 k.0, k.1)) b.1),
+      (all_map (λ p. IsPlace f p.0 p.1 × (header_length f.0 < p.0)) (λ p. IsPlace (with_more f st.0.0) p.0 p.1 × (header_length f.0 < p.0)) s.points (λ p k. (place-more f st.0.0 p.0 p.1 k.0, k.1)) b.1),
   points-more cat fs gs ss st.1 b.2,
 )
 
@@ -365,14 +327,14 @@ places-more cat (f ∷ fs) (g ∷ gs) (s ∷ ss) st b =
     )
 
 pub past-key : (key : List ℕ) (r : Range) (t u : ℕ) (fs : List (Header × List Item)) → in_range key r ≡ true → u ≤ t → Behind r t fs → ArePast key u fs
-past-key key r t u fs w l b = all-map (λ f. IsTrue (meets f.0.range r) → t ≤ checkpoint_of f.0 f.1) (λ f. in_range key f.0.range ≡ true → u ≤ checkpoint_of f.0 f.1) fs
+past-key key r t u fs w l b = all_map (λ f. IsTrue (meets f.0.range r) → t ≤ checkpoint_of f.0 f.1) (λ f. in_range key f.0.range ≡ true → u ≤ checkpoint_of f.0 f.1) fs
     (λ f k a. let m : t ≤ checkpoint_of f.0 f.1 = k (meets-by key f.0.range r a w) in omega (arith, m, l)) b
 
 part-more : (feed more : Feed) (d : Durable) (fs gs : List (Header × List Item)) (p : Part) (r : Range) → Grows feed more → IsCatalogue d.catalogue → Fronts feed d.catalogue fs → Fronts more d.catalogue gs → SoundPart d fs p r → SoundPart d gs p r
 part-more feed more d fs gs p r grows lawful a b s =
     let st = longer feed more d.catalogue fs gs grows lawful a b in record {
-      only_changes = λ table v k h. let c = s.only_changes table v k h in (c.0, all-at (Contains (source_of gs)) (source_of fs) c.0 (source-more d.catalogue fs gs st) c.1, c.2, c.3);
-      all_changes = λ c k w h l. s.all_changes c (all-at (Back r p.resume (source_of fs)) (source_of gs) c (source-back d.catalogue r p.resume fs gs st s.resume) k w l) w h l;
+      only_changes = λ table v k h. let c = s.only_changes table v k h in (c.0, all_at (Contains (source_of gs)) (source_of fs) c.0 (source-more d.catalogue fs gs st) c.1, c.2, c.3);
+      all_changes = λ c k w h l. s.all_changes c (all_at (Back r p.resume (source_of fs)) (source_of gs) c (source-back d.catalogue r p.resume fs gs st s.resume) k w l) w h l;
       rows = λ t key k w h. s.rows t key k w h ∙ ap (row_cells d.catalogue t.number) (sym (row_stays frames_prefix_free feed more d.catalogue d.catalogue fs gs grows (grows-same feed more grows) lawful as_it_was a b key d.minimum
           (past-key key r p.resume d.minimum fs w s.minimum s.resume)));
       agree = s.agree;
@@ -450,7 +412,7 @@ behind-safe feed cat r t n (f ∷ fs) (s ∷ ss) a b l =
     )
 
 behind-less : (r : Range) (t u : ℕ) (fs : List (Header × List Item)) → u ≤ t → Behind r t fs → Behind r u fs
-behind-less r t u fs l b = all-map (λ f. IsTrue (meets f.0.range r) → t ≤ checkpoint_of f.0 f.1) (λ f. IsTrue (meets f.0.range r) → u ≤ checkpoint_of f.0 f.1) fs (λ f k a. let m : t ≤ checkpoint_of f.0 f.1 = k a in omega (arith, m, l)) b
+behind-less r t u fs l b = all_map (λ f. IsTrue (meets f.0.range r) → t ≤ checkpoint_of f.0 f.1) (λ f. IsTrue (meets f.0.range r) → u ≤ checkpoint_of f.0 f.1) fs (λ f k a. let m : t ≤ checkpoint_of f.0 f.1 = k a in omega (arith, m, l)) b
 
 pub le-false : (a b : ℕ) → nat_le a b ≡ false → b < a
 le-false a b e = grind (arith, nat_tests)
@@ -488,7 +450,7 @@ found-part key X p (q ∷ ps) h a = pick (below key q.low) (λ e. a.0 (and_from 
 eq-zero : (n : ℕ) → (n == 0) ≡ true → n ≡ 0
 eq-zero n e = grind (arith, nat_tests)
 
-not-below-none : (key low : List ℕ) → IsTrue (length low == 0) → below key low ≡ false
+pub not-below-none : (key low : List ℕ) → IsTrue (length low == 0) → below key low ≡ false
 not-below-none [] [] e = refl
 not-below-none (k ∷ ks) [] e = refl
 not-below-none key (l ∷ ls) e = let d : length (l ∷ ls) ≡ 0 = eq-zero (length (l ∷ ls)) e in absurd (omega (arith, d))
@@ -497,14 +459,10 @@ pub in-some-part : (key : List ℕ) (X : Type 0) (ps : List Part) → IsTrue (ti
 in-some-part key X [] e a = let d : false ≡ true = e in cc
 in-some-part key X (p ∷ ps) e a = found-part key X p ps (not-below-none key p.low (left (length p.low == 0) _ e)) a
 
-pub none-mapped : {A B : Type 0} (f : A → B) (o : Option A) → option_map f o ≡ None → o ≡ None
-none-mapped f None e = refl
-none-mapped f (Some x) e = cc
-
 -- the row of each key of an interval stays, up to a moment at which no partition that meets it is behind
 pub safe_row_stays : (feed more : Feed) (wide : Catalogue) (fs : List (Header × List Item)) (s : State) → Grows feed more → Became (cat_of s) wide → IsGood feed s fs → (gs : List (Header × List Item)) → Fronts more wide gs
     → (q : Range) (t : ℕ) → first_below s q t ≡ None → (key : List ℕ) → in_range key q ≡ true → row_at (source_of gs) key t ≡ row_at (source_of fs) key t
 safe_row_stays feed more wide fs s grows became good gs b q t e key w =
     row_stays frames_prefix_free feed more (cat_of s) wide fs gs grows (grows-same feed more grows) good.lawful.manifest.catalogue became good.fronts b key t
     (in-some-part key (ArePast key t fs) s.durable.parts (left _ _ (left _ _ good.lawful.manifest.parts))
-    (parts-safe feed s.durable key q t 0 fs s.streams good.fronts.each good.ready.places w s.durable.parts (ranges_of s.durable) good.sound.parts (none-mapped (λ x. (x.0, x.1.1)) _ e)))
+    (parts-safe feed s.durable key q t 0 fs s.streams good.fronts.each good.ready.places w s.durable.parts (ranges_of s.durable) good.sound.parts (none_mapped (λ x. (x.0, x.1.1)) _ e)))

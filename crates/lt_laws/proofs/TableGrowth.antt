@@ -152,7 +152,7 @@ pub none_set : (set : List (ℕ × Value)) (n : ℕ) (ls : List Leaf) → settin
 none_set set n [] e = refl
 none_set set n (l ∷ ls) e = none_set_by n l (cell_in set l) (sets n (beside (cell_in set) ls)) (l.column == n) refl (λ k. cell_none set n l e (eqb-true l.column n k)) (none_set set n ls e)
 
-unset_by : (set : List (ℕ × Value)) (ls : List Leaf) (b : Leaf) (o : Option Leaf) → find (λ l. same_leaf l b) ls ≡ o → setting b.column set ≡ None
+pub unset_by : (set : List (ℕ × Value)) (ls : List Leaf) (b : Leaf) (o : Option Leaf) → find (λ l. same_leaf l b) ls ≡ o → setting b.column set ≡ None
     → option_map_or (λ (c : Leaf × Cell). cell_to c.0.rank b.rank c.1) (option_map (λ l. (l, cell_in set l)) o) (lacking b (beside (cell_in set) ls)) ≡ unset
 unset_by set ls b (Some a) f e = ap (cell_to a.rank b.rank) (cell_none set b.column a e (leaf_is a b (find_held (λ l. same_leaf l b) ls a f).1).0) ∙ unset_to a.rank b.rank
 unset_by set ls b None f e = ap (λ (t : Bool). cond t (cond b.presence (bool_cell false) null_cell) unset) (none_set set b.column ls e)
@@ -161,16 +161,13 @@ unset_goes : (set : List (ℕ × Value)) (ls : List Leaf) (b : Leaf) → setting
 unset_goes set ls b e = ap (λ (o : Option (Leaf × Cell)). option_map_or (λ (c : Leaf × Cell). cell_to c.0.rank b.rank c.1) o (lacking b (beside (cell_in set) ls))) (found_beside (cell_in set) b ls)
     ∙ unset_by set ls b (find (λ l. same_leaf l b) ls) refl e
 
-set_cell : (l : Leaf) (v : Value) → is_unset (leaf_cell l v) ≡ false
-set_cell l v = leaf_cell-set l v
-
 -- a column that is set has a set cell where the carriers have it
 column_is_set : (t : Table) (set : List (ℕ × Value)) (n : ℕ) (k : Kind) (w : Value) → column_live t n ≡ true → carrier t n ≡ Some k → setting n set ≡ Some w → sets n (beside (cell_in set) (layout_of (cols t))) ≡ true
 column_is_set t set n k w live e s =
     let l = leaf_at n [] (mark_of k) in
     let i : Contains (layout_of (cols t)) l = leaf_in_layout (cols t) n [] (mark_of k) (in_cols t n k [] live e) in
     any_of (sets_at n) (beside (cell_in set) (layout_of (cols t))) (l, cell_in set l) (in_map (λ l. (l, cell_in set l)) (layout_of (cols t)) l i)
-    (and_from _ _ (eq-eqb n n refl) (ap not (ap (λ (o : Option Value). is_unset (option_map_or (leaf_cell l) o unset)) s ∙ set_cell l w)))
+    (and_from _ _ (eq-eqb n n refl) (ap not (ap (λ (o : Option Value). is_unset (option_map_or (leaf_cell l) o unset)) s ∙ leaf_cell-set l w)))
 
 set_by : (t : Table) (set : List (ℕ × Value)) (b : Leaf) (k wide : Kind) (v : Value) (o : Option Leaf) → IsFineTable t → find (λ l. same_leaf l b) (layout_of (cols t)) ≡ o → column_live t b.column ≡ true → carrier t b.column ≡ Some k → LeavesUp k wide
     → IsTrue (lies_within v k) → leaf_of wide b.path ≡ Some (b.rank, b.presence) → setting b.column set ≡ Some (conv v k)

@@ -18,37 +18,22 @@ use Rattle.lt_tables.specs.Row.{AreKeyed, IsKeyed, changes_up_to, in_time, row_a
 use Rattle.lt_tables.specs.Pump.{Part, StreamAt, Takes, all_delivered, behind_header, moved_by, no_point, put_name}
 use Rattle.lt_machine.specs.Sound.{Fronts, FrontsFrom, source_of}
 use Rattle.lt_machine.specs.Machine.{State, ranges_of, stream_at, with_items}
-use Rattle.lt_codecs.proofs.ListFacts.{or_left, or_right}
+use Rattle.lt_codecs.proofs.ListFacts.{all_append, all_both, all_front, all_rest, or_left, or_right}
 use Rattle.lt_codecs.proofs.LogLaws.{frames_prefix_free}
-use Rattle.lt_lemmas.proofs.TakenLaws.{any_append, left, made_same, moved_append, number_fits, right, shape_key, spelled_length, spelled_one}
+use Rattle.lt_lemmas.proofs.TakenLaws.{any_append, made_same, moved_append, number_fits, shape_key, spelled_length, spelled_one}
 use Rattle.lt_lemmas.proofs.ListFacts.{when_none}
 use Rattle.lt_lemmas.proofs.RowLemmas.{reads_in_order}
-use Rattle.lt_lemmas.proofs.PointLaws.{changes_of-append, point_suffices}
+use Rattle.lt_lemmas.proofs.PointLaws.{changes_of-append, left, point_suffices, right}
 use Rattle.lt_laws.proofs.FrontLaws.{Front, begins, fair_front, first_fair, points_after}
 use Rattle.lt_laws.proofs.FairLaws.{fair_in_time, key_stays_by}
 use Rattle.lt_laws.proofs.SnapshotLaws.{snapshot_by_rows}
+use Rattle.lt_laws.proofs.SoundLaws.{checkpoint-is}
 
 -- ---- the changes of a fair list
 
 -- a change that breaks no rule behind some items
 abbrev pub Passes : Header → Catalogue → Change → Type 0
 Passes h cat c = (before : List Item) × (change_fault h cat before c ≡ None)
-
-pub all_append : {A : Type 0} (P : A → Type 0) (xs ys : List A) → AllByRecursion P xs → AllByRecursion P ys → AllByRecursion P (xs ++ ys)
-all_append P [] ys a b = b
-all_append P (x ∷ xs) ys a b = (a.0, all_append P xs ys a.1 b)
-
-pub all_both : {A : Type 0} (P Q R : A → Type 0) (xs : List A) → ((x : A) → P x → Q x → R x) → AllByRecursion P xs → AllByRecursion Q xs → AllByRecursion R xs
-all_both P Q R [] f a b = tt
-all_both P Q R (x ∷ xs) f a b = (f x a.0 b.0, all_both P Q R xs f a.1 b.1)
-
-pub all_front : {A : Type 0} (P : A → Type 0) (xs ys : List A) → AllByRecursion P (xs ++ ys) → AllByRecursion P xs
-all_front P [] ys a = tt
-all_front P (x ∷ xs) ys a = (a.0, all_front P xs ys a.1)
-
-pub all_rest : {A : Type 0} (P : A → Type 0) (xs ys : List A) → AllByRecursion P (xs ++ ys) → AllByRecursion P ys
-all_rest P [] ys a = a
-all_rest P (x ∷ xs) ys a = all_rest P xs ys a.1
 
 changes_pass : (h : Header) (cat : Catalogue) (before : List Item) (cs : List Change) → changes_fault h cat before cs ≡ None → AllByRecursion (Passes h cat) cs
 changes_pass h cat before [] e = tt
@@ -172,10 +157,6 @@ pub record AreTaken (feed : Feed) (cat : Catalogue) (h : Header) (before items :
   pub fair : fair_after h cat before items ≡ true
   pub stand : AllSuccessorsStand feed h before items
 
-checkpoint_at : (h : Header) (items : List Item) → (point_of h items).checkpoint ≡ checkpoint_of h items
-unfolding point_of
-checkpoint_at h items = refl
-
 pub fair_join : (h : Header) (cat : Catalogue) (before is js : List Item) → fair_after h cat before is ≡ true → fair_after h cat (before ++ is) js ≡ true → fair_after h cat before (is ++ js) ≡ true
 fair_join h cat before [] js f g = subst (λ (x : List Item). fair_after h cat x js ≡ true) (append-nil before) g
 fair_join h cat before (i ∷ is) js f g = let p = and_parts (is_none (breaks h cat before i)) (fair_after h cat (before ++ i ∷ []) is) f in
@@ -193,7 +174,7 @@ are_taken feed cat h before (i ∷ items) rest f t =
     let others = are_taken feed cat h (before ++ i ∷ []) items rest g (subst (λ (a : StreamAt). Takes feed cat a items rest) (moved_behind h cat before (i ∷ []) g) t.4) in record {
       lawful = (t.0, others.lawful);
       fair = and_from _ _ (ap is_none e) others.fair;
-      stand = (subst (λ (u : ℕ). SuccessorsStand feed h u i) (checkpoint_at h before) t.3, others.stand);
+      stand = (subst (λ (u : ℕ). SuccessorsStand feed h u i) (checkpoint-is h before) t.3, others.stand);
     }
 
 -- Behind some items of a front stand its other items.

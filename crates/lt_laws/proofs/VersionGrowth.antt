@@ -12,7 +12,6 @@ use Rattle.lt_lemmas.proofs.TableLaws.{Follows, accepted, same_columns}
 use Rattle.lt_lemmas.proofs.ListFacts.{filter_map-append, find_all, find_held, when_none}
 use Rattle.lt_lemmas.proofs.CatalogueLaws.{AllPast, NumbersRise, numbers_rise, past_trans, retired_where}
 use Rattle.lt_lemmas.proofs.VersionGrowth.{its_number}
-use Rattle.lt_laws.proofs.ReadLaws.{or_left, or_right}
 use Rattle.lt_laws.proofs.TableGrowth.{Widens}
 use Rattle.lt_laws.proofs.WidenLaws.{LeavesUp, leaves_up, same_leaves}
 use Rattle.lt_laws.proofs.TableLaws.{fold_clash}
@@ -20,6 +19,7 @@ use Rattle.lt_laws.proofs.CarrierLaws.{clash_bare}
 use Rattle.lt_laws.proofs.AnswerLaws.{numbered_held}
 use Rattle.lt_laws.proofs.CatalogueLaws.{find_retired, past_found}
 use Rattle.lt_laws.proofs.ListFacts.{all_at}
+use Rattle.lt_lemmas.proofs.SnapshotLaws.{or_left, or_right}
 
 abbrev is_live_with : ℕ → Registered → Bool
 is_live_with n r = r.live && has_column n r

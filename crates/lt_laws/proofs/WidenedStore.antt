@@ -15,18 +15,19 @@ use Rattle.lt_codecs.proofs.ListFacts.{all_map}
 use Rattle.lt_lemmas.proofs.SoundLaws.{pick}
 use Rattle.lt_lemmas.proofs.TableLaws.{IsFineTable, fine_table}
 use Rattle.lt_lemmas.proofs.VersionGrowth.{its_number}
-use Rattle.lt_lemmas.proofs.TakenLaws.{left, right}
 use Rattle.lt_lemmas.proofs.ListFacts.{all_from, find_held}
 use Rattle.lt_laws.proofs.TableGrowth.{Widens, are_columns, cols, covered_wide, in_cols, kind_of_leaf, leaf_in_cols, only_right}
 use Rattle.lt_laws.proofs.LeafLaws.{IsMarked, Mark, all_marked, leaf_at, leaf_in, leaf_in_layout, leaf_same}
 use Rattle.lt_laws.proofs.ScanLemmas.{found-carrier, kind_for}
-use Rattle.lt_laws.proofs.ReadLaws.{all_tests, live_numbers, or_left, or_right}
+use Rattle.lt_laws.proofs.ReadLaws.{all_tests, live_numbers}
 use Rattle.lt_laws.proofs.ScanLaws.{any_of}
 use Rattle.lt_laws.proofs.VersionGrowth.{Grew}
 use Rattle.lt_laws.proofs.CoerceLaws.{AreFit, IsServed, coerce_twice, suits_rank}
 use Rattle.lt_laws.proofs.ListFacts.{all_at, from_filter_map}
 use Rattle.lt_laws.proofs.WidenLaws.{presence_bool}
 use Rattle.lt_laws.proofs.ClipLaws.{coerce-clip, coerce-merge}
+use Rattle.lt_lemmas.proofs.SnapshotLaws.{or_left, or_right}
+use Rattle.lt_lemmas.proofs.PointLaws.{left, right}
 
 -- ---- the carriers of a known table
 

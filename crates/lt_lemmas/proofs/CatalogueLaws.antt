@@ -1,6 +1,6 @@
 -- The tables of a lawful catalogue stand by rising number.
 use Rattle.std.proofs.Common.{Bool, [], arith, cond, false, ltb-false, ltb-true, refl, subst, sym, true, ℕ, ◌++◌, ◌<◌, ◌∷◌, ◌≡◌}
-use Rattle.std.specs.Prelude.{if◌then◌else◌, nat_lt, ⊤, ◌-◌, ◌==◌}
+use Rattle.std.specs.Prelude.{if◌then◌else◌, nat_lt, ⊤, ◌==◌}
 use Rattle.std.proofs.lemmas.Bool.{eqb-false}
 use Rattle.lt_tables.specs.Schema.{Catalogue, IsCatalogue, SchemaVersion, Table, after_adding, after_retiring, live_version, new_table, nothing_yet, with_retired, with_version, without_version}
 

@@ -1,6 +1,5 @@
 -- A longer feed keeps each stream's bytes, headers and successors.
 use Rattle.std.proofs.Common.{List, [], ap, append-nil, append_assoc, refl, suc, sym, zero, ℕ, ◌++◌, ◌+◌, ◌∙◌, ◌∷◌, ◌≡◌}
-use Rattle.std.specs.Prelude.{◌≢◌}
 use Rattle.std.proofs.lemmas.Bool.{false≢true}
 use Rattle.lt_terms.specs.Log.{Header, Item, batch_item, change_item, checkpoint_item, close_item, header_item, spelled}
 use Rattle.lt_world.specs.Feed.{Feed, Grows, stream_bytes}

@@ -49,10 +49,10 @@ less Less h = refl
 less Equal h = cc
 less Greater h = cc
 
-equal : (o : Ordering) → is_eq o ≡ true → o ≡ Equal
-equal Less h = cc
-equal Equal h = refl
-equal Greater h = cc
+pub is_equal : (o : Ordering) → is_eq o ≡ true → o ≡ Equal
+is_equal Less h = cc
+is_equal Equal h = refl
+is_equal Greater h = cc
 
 pub greater : (o : Ordering) → is_lt o ≡ false → is_eq o ≡ false → o ≡ Greater
 greater Less h i = cc
@@ -63,7 +63,7 @@ pub before-cmp : (a b : RowVersion) → stands_before a b ≡ true → name_cmp 
 before-cmp a b h = less (name_cmp a b) (sym (before-is a b) ∙ h)
 
 pub same-cmp : (a b : RowVersion) → same_name a b ≡ true → name_cmp a b ≡ Equal
-same-cmp a b h = equal (name_cmp a b) (sym (same-is a b) ∙ h)
+same-cmp a b h = is_equal (name_cmp a b) (sym (same-is a b) ∙ h)
 
 pub before-trans : (a b c : RowVersion) → stands_before a b ≡ true → stands_before b c ≡ true → stands_before a c ≡ true
 before-trans a b c h i = before-is a c ∙ ap is_lt (names_total.trans a b c (before-cmp a b h) (before-cmp b c i))
@@ -82,7 +82,7 @@ before-same : (a b c : RowVersion) → same_name a b ≡ true → stands_before 
 before-same a b c h = before-is a c ∙ ap is_lt (names_total.congr a b c (same-cmp a b h)) ∙ sym (before-is b c)
 
 pub same-key : (a b : List ℕ) → same_key a b ≡ true → a ≡ b
-same-key a b h = exact_bytes a b (equal (bytes_cmp a b) h)
+same-key a b h = exact_bytes a b (is_equal (bytes_cmp a b) h)
 
 pub same-itself : (a : List ℕ) → same_key a a ≡ true
 same-itself a = ap is_eq (tied_itself nat_list_cmp_total a)

@@ -21,13 +21,9 @@ use Rattle.lt_tables.specs.Row.{is_in_time}
 use Rattle.lt_tables.specs.Schema.{Catalogue, first_of, registered, table_numbered, when}
 pub use Rattle.lt_codecs.proofs.ListFacts.{or_left, or_right}
 pub use Rattle.lt_lemmas.proofs.ListFacts.{when_none}
+use Rattle.lt_lemmas.proofs.MergeLaws.{is_equal, less}
 
 -- ---- keys
-
-is_equal : (o : Ordering) → is_eq o ≡ true → o ≡ Equal
-is_equal Less h = cc
-is_equal Equal h = refl
-is_equal Greater h = cc
 
 pub same : (a b : List ℕ) → same_key a b ≡ true → a ≡ b
 same a b h = exact_bytes a b (is_equal (bytes_cmp a b) h)
@@ -38,13 +34,8 @@ itself a = ap is_eq (tied_itself nat_list_cmp_total a)
 pub swapped : (a b : List ℕ) → same_key a b ≡ same_key b a
 swapped a b = (eq_by_cmp_equiv nat_list_cmp_total).symm a b
 
-is_less : (o : Ordering) → is_lt o ≡ true → o ≡ Less
-is_less Less h = refl
-is_less Equal h = cc
-is_less Greater h = cc
-
 pub below_trans : (a b c : List ℕ) → below a b ≡ true → below b c ≡ true → below a c ≡ true
-below_trans a b c h i = ap is_lt (nat_list_cmp_total.trans a b c (is_less (bytes_cmp a b) h) (is_less (bytes_cmp b c) i))
+below_trans a b c h i = ap is_lt (nat_list_cmp_total.trans a b c (less (bytes_cmp a b) h) (less (bytes_cmp b c) i))
 
 above_by : (o p : Ordering) → p ≡ ordering_reverse o → is_lt o ≡ false → is_eq o ≡ false → is_lt p ≡ true
 above_by Less p e h i = cc

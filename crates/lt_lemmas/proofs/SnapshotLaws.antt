@@ -42,7 +42,7 @@ less_is_not Greater h = cc
 pub apart : (a b : List ℕ) → below a b ≡ true → same_key a b ≡ false
 apart a b h = less_is_not (bytes_cmp a b) h
 
-or_false : (a b : Bool) → a ≡ false → b ≡ false → (a || b) ≡ false
+pub or_false : (a b : Bool) → a ≡ false → b ≡ false → (a || b) ≡ false
 or_false true b h i = h
 or_false false b h i = i
 

@@ -1,20 +1,12 @@
 -- Ranges that have a key in common meet.
 use Rattle.std.proofs.Common.{Bool, List, false, refl, subst, sym, true, ℕ, ◌∙◌, ◌≡◌}
-use Rattle.std.specs.Prelude.{None, Option, Some, not, ◌&&◌}
+use Rattle.std.specs.Prelude.{None, Option, Some, not}
 use Rattle.std.proofs.lemmas.Bool.{and_from}
 use Rattle.lt_terms.specs.Key.{Range, below, common, in_range, is_below_high, meets, same_key}
-use Rattle.lt_lemmas.proofs.PointLaws.{above, below_trans, same}
+use Rattle.lt_lemmas.proofs.PointLaws.{above, below_trans, left, right, same}
 use Rattle.lt_lemmas.proofs.ClipLaws.{in-common}
 
 -- ---- tests and lists
-
-pub left : (a b : Bool) → (a && b) ≡ true → a ≡ true
-left true b h = refl
-left false b h = h
-
-pub right : (a b : Bool) → (a && b) ≡ true → b ≡ true
-right true b h = h
-right false b h = cc
 
 pub not-true : (b : Bool) → not b ≡ true → b ≡ false
 not-true true h = sym h

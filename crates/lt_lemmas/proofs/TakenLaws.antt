@@ -1,6 +1,6 @@
 -- What a pump takes: key parts of a lawful change, items that are taken after others, and items of a longer feed.
 use Rattle.std.proofs.Common.{Bool, List, [], ap, append-nil, append_assoc, arith, drop, false, length, ltb-true, refl, subst, sym, true, ℕ, ◌++◌, ◌+◌, ◌<◌, ◌∙◌, ◌∷◌, ◌≡◌, ◌≤◌}
-use Rattle.std.specs.Prelude.{IsTrue, None, Option, Some, flat_map, fold, nat_lt, ◌&&◌, ◌-◌, ◌^◌, ◌||◌}
+use Rattle.std.specs.Prelude.{IsTrue, None, Option, Some, flat_map, fold, nat_lt, ◌-◌, ◌^◌, ◌||◌}
 use Rattle.std.specs.Option.{option_map_or}
 use Rattle.std.proofs.lemmas.Bool.{and_parts}
 use Rattle.std.specs.List.{list_any}
@@ -15,6 +15,7 @@ use Rattle.lt_tables.specs.Schema.{Catalogue, Registered, Table, key_kinds}
 use Rattle.lt_tables.specs.Fair.{Point, has_change_shape, is_close, is_closed, point_after}
 use Rattle.lt_tables.specs.Pump.{StreamAt, Takes, moved_by}
 use Rattle.lt_lemmas.proofs.FrontLaws.{bytes_grow, successors_stay}
+use Rattle.lt_lemmas.proofs.PointLaws.{right}
 
 -- ---- their keys are of the tables' kinds
 
@@ -23,20 +24,14 @@ shape_key None r c e = cc
 shape_key (Some t) None c e = cc
 shape_key (Some t) (Some r) c e = (and_parts (is_key_of (key_kinds t.key) c.key) _ e).0
 
-pub left : (a b : Bool) → (a && b) ≡ true → a ≡ true
-left a b h = (and_parts a b h).0
-
-pub right : (a b : Bool) → (a && b) ≡ true → b ≡ true
-right a b h = (and_parts a b h).1
-
 pub number_fits : (n : ℕ) → IsTrue (is_number n) → n < 2 ^ 32
 number_fits n h = let l : n < 2 ^ 16 = ltb-true n (2 ^ 16) (right (nat_lt 0 n) (nat_lt n (2 ^ 16)) h) in omega (arith, l)
 
 -- ---- items that were taken
 
-or_false : (b : Bool) → (b || false) ≡ b
-or_false true = refl
-or_false false = refl
+pub or_nothing : (b : Bool) → (b || false) ≡ b
+or_nothing true = refl
+or_nothing false = refl
 
 or_assoc : (a b c : Bool) → (a || (b || c)) ≡ ((a || b) || c)
 or_assoc true b c = refl
@@ -53,7 +48,7 @@ pub spelled_length : (xs ys : List Item) → length (flat_map spelled (xs ++ ys)
 spelled_length xs ys = ap length (flat_map-append spelled xs ys) ∙ length-append (flat_map spelled xs) (flat_map spelled ys)
 
 pub moved_none : (a : StreamAt) → moved_by [] a ≡ a
-moved_none a = made_same a.header (a.offset + 0) a.offset a.point a.point (a.closed || false) a.closed (omega arith) refl (or_false a.closed)
+moved_none a = made_same a.header (a.offset + 0) a.offset a.point a.point (a.closed || false) a.closed (omega arith) refl (or_nothing a.closed)
 
 pub moved_append : (xs ys : List Item) (a : StreamAt) → moved_by (xs ++ ys) a ≡ moved_by ys (moved_by xs a)
 moved_append xs ys a = made_same a.header (a.offset + length (flat_map spelled (xs ++ ys))) (a.offset + length (flat_map spelled xs) + length (flat_map spelled ys)) (fold point_after a.point (xs ++ ys))

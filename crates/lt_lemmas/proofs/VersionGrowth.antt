@@ -1,6 +1,6 @@
 -- A table that was found by a number has that number.
 use Rattle.std.proofs.Common.{eqb-true, ℕ, ◌≡◌}
-use Rattle.std.specs.Prelude.{Some, ◌-◌, ◌==◌}
+use Rattle.std.specs.Prelude.{Some, ◌==◌}
 use Rattle.lt_tables.specs.Schema.{Catalogue, Table, table_numbered}
 use Rattle.lt_lemmas.proofs.ListFacts.{find_held}
 

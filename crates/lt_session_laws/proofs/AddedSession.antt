@@ -21,7 +21,6 @@ use Rattle.lt_lemmas.proofs.ListFacts.{all_from}
 use Rattle.lt_lemmas.proofs.PartsChanged.{changed_there, length_changed}
 use Rattle.lt_session_laws.proofs.DeltaAdded.{Adds, IsSource, lists_too, part_added, part_other, pending_grown, stands_added, stands_other, store_grown, stored_as, with_one}
 use Rattle.lt_laws.proofs.DurableFacts.{IsKnown, listed_known, map_tests, mapped_any, named_at, part_entries, shelf_below}
-use Rattle.lt_laws.proofs.ReadLaws.{or_left, or_right}
 use Rattle.lt_laws.proofs.NewDelta.{flushed_lawful, tests_hold}
 use Rattle.lt_laws.proofs.ListFacts.{all_at}
 use Rattle.lt_session_laws.proofs.PartsChanged.{all_changed, any_changed, any_there, change_none, each_changed, lows_changed, pending_at, pending_changed, ranges_changed}
@@ -30,6 +29,7 @@ use Rattle.lt_laws.proofs.AnswerLaws.{sound_from}
 use Rattle.lt_laws.proofs.RangeLaws.{source_in_time}
 use Rattle.lt_laws.proofs.ShelfGrowth.{flushed_carried, known_stays, named_stay}
 use Rattle.lt_session_laws.proofs.StepLaws.{if_some}
+use Rattle.lt_lemmas.proofs.SnapshotLaws.{or_left, or_right}
 
 -- ---- entries of a manifest, in parts
 

@@ -311,11 +311,11 @@ schema_keeps t feed fs s s' a good e d =
     let r = catalogue_grows feed fs s d.0 good (read_is (cat_of s) d.0 (version_of_text t) d.1 good.lawful.manifest.catalogue) u.unworn in
     (r.0, subst (λ (x : State). IsGood feed x r.0) (sym d.3) r.1)
 
-tests : (c d l : Bool) → c ≡ false → d ≡ true → l ≡ false → (if c then Some unknown_version else (if not d then Some already_retired else when l last_version)) ≡ None
-tests true d l e f g = absurd (false≢true (sym e))
-tests false false l e f g = absurd (false≢true f)
-tests false true true e f g = absurd (false≢true (sym g))
-tests false true false e f g = refl
+pub none_refuses : (c d l : Bool) → c ≡ false → d ≡ true → l ≡ false → (if c then Some unknown_version else (if not d then Some already_retired else when l last_version)) ≡ None
+none_refuses true d l e f g = absurd (false≢true (sym e))
+none_refuses false false l e f g = absurd (false≢true f)
+none_refuses false true true e f g = absurd (false≢true (sym g))
+none_refuses false true false e f g = refl
 
 retires : (cat : Catalogue) (name : List ℕ) (v : ℕ) (x : Table) → IsCatalogue cat → table_named cat name ≡ Some x → when (is_none (registered_named cat name v)) (no_such_version v) ≡ None
     → when (option_map_or (λ r. not r.live) (registered_named cat name v) false) (version_retired v) ≡ None → when (v == length x.versions) (is_last_version v) ≡ None → retire_fault cat x.number v ≡ None
@@ -337,7 +337,7 @@ retires cat name v x is e f g h =
     fault_at None k i j l = cc
     fault_at (Some y) k i j l =
         let d : y ≡ x = cc in
-        tests (is_none (registered y v)) (option_map_or (λ r. r.live) (registered y v) false) (v == length y.versions) (ap (λ (z : Table). is_none (registered z v)) d ∙ i)
+        none_refuses (is_none (registered y v)) (option_map_or (λ r. r.live) (registered y v) false) (v == length y.versions) (ap (λ (z : Table). is_none (registered z v)) d ∙ i)
         (ap (λ (z : Table). option_map_or (λ r. r.live) (registered z v) false) d ∙ live_version_at (registered x v) i j) (ap (λ (z : Table). v == length z.versions) d ∙ l)
 
 pub retire_keeps : (t : List ℕ) (v : ℕ) → KeepsDoing (do_retire t v)

@@ -28,6 +28,7 @@ use Rattle.lt_laws.proofs.NewDelta.{tests_hold}
 use Rattle.lt_laws.proofs.HeldLaws.{rises_tail}
 use Rattle.lt_session_laws.proofs.JobOutput.{settled}
 use Rattle.lt_laws.proofs.SoundLaws.{filter-all}
+use Rattle.lt_lemmas.proofs.SnapshotLaws.{or_false}
 
 -- the id of the output, or none where the output is empty
 abbrev pub IsId : Durable → Job → Option ℕ → Type 0
@@ -207,10 +208,6 @@ unlisted_by j o d p i true h e l f = by_id h
     by_id : (o ≡ None) ⊎ (o ≡ Some d.next_id) → lists_id (replaced j o p).ids i ≡ false
     by_id (inl n) = subst (λ (o : Option ℕ). lists_id (replaced j o p).ids i ≡ false) (sym n) (gone p.ids)
     by_id (inr n) = subst (λ (o : Option ℕ). lists_id (replaced j o p).ids i ≡ false) (sym n) (any_append (λ k. k == i) (others j p) (d.next_id ∷ []) ∙ ap₂ (λ (x y : Bool). x || (y || false)) (gone p.ids) apart)
-
-or_false : (a b : Bool) → a ≡ false → b ≡ false → (a || b) ≡ false
-or_false true b h i = absurd (false≢true (sym h))
-or_false false b h i = i
 
 outside_only : (a b : Bool) → (a && not b) ≡ false → b ≡ false → a ≡ false
 outside_only true true h i = absurd (false≢true (sym i))

@@ -28,7 +28,7 @@ use Rattle.lt_laws.proofs.ShelfGrowth.{merged_from, merged_new, merged_old, name
 use Rattle.lt_laws.proofs.ListFacts.{from_map, held_either, held_is_found, held_one, in_map}
 use Rattle.lt_laws.proofs.DurableFacts.{IsKnown}
 use Rattle.lt_session_laws.proofs.SplitLaws.{RestsIn, StandsAt}
-use Rattle.lt_laws.proofs.ReadLaws.{or_left}
+use Rattle.lt_lemmas.proofs.SnapshotLaws.{or_left}
 
 -- ---- what a source is
 

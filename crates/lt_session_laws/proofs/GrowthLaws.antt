@@ -8,11 +8,12 @@ use Rattle.lt_storage.specs.Store.{Durable}
 use Rattle.lt_machine.specs.Sound.{FrontsFrom, GrowthKeeps, IsSoundFor, source_of}
 use Rattle.lt_machine.specs.Machine.{cat_of, query_interval}
 use Rattle.lt_laws.proofs.CatalogueLaws.{fair_stays}
-use Rattle.lt_laws.proofs.TakenLaws.{all_append, fair_keyed, source_keyed}
+use Rattle.lt_laws.proofs.TakenLaws.{fair_keyed, source_keyed}
 use Rattle.lt_laws.proofs.FrontStands.{fronts_grow}
 use Rattle.lt_laws.proofs.SoundLaws.{good_grows, safe_row_stays, sound_grows_part}
 use Rattle.lt_laws.proofs.SnapshotLaws.{answer_by_rows}
 use Rattle.lt_session_laws.proofs.StepLaws.{if_some}
+use Rattle.lt_codecs.proofs.ListFacts.{all_append}
 
 -- the changes of fronts are keyed under a longer catalogue too
 wider_keyed : (feed : Feed) (cat wide : Catalogue) (n : ℕ) (fs : List (Header × List Item)) → IsCatalogue cat → Became cat wide → FrontsFrom feed cat n fs → AreKeyed wide (source_of fs)

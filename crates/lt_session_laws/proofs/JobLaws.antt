@@ -20,12 +20,12 @@ use Rattle.lt_lemmas.proofs.ListFacts.{all_from, find_held}
 use Rattle.lt_lemmas.proofs.SoundLaws.{pick}
 use Rattle.lt_session_laws.proofs.SplitLaws.{Each, RestsIn, StandsAt, each_as, each_zipped, lows_of}
 use Rattle.lt_laws.proofs.MergeLaws.{puts_from}
-use Rattle.lt_laws.proofs.ReadLaws.{or_left, or_right}
 use Rattle.lt_laws.proofs.ScanLemmas.{from-filter, in-filter}
 use Rattle.lt_laws.proofs.ListFacts.{all_at, flat_held, from_filter_map, from_map}
 use Rattle.lt_laws.proofs.DurableFacts.{IsKnown, inputs_known}
 use Rattle.lt_laws.proofs.ScanLaws.{tiles_of}
 use Rattle.lt_session_laws.proofs.StepLaws.{KeepsDoing, unrefused}
+use Rattle.lt_lemmas.proofs.SnapshotLaws.{or_left, or_right}
 
 -- ---- of ranges that tile, the chosen one meets no other
 

@@ -1,6 +1,6 @@
 -- The minimum never falls: a retention raises it, a reopening reads what has no lesser one, and no other command changes it.
 use Rattle.std.proofs.Common.{Bool, List, ap, arith, false, inl, inr, ltb-false, refl, subst, sym, true, ℕ, ◌∙◌, ◌≡◌, ◌≤◌}
-use Rattle.std.specs.Prelude.{IfSome, IsTrue, None, Option, Some, is_some, nat_lt, unwrap_or, ◌&&◌, ◌⊎◌}
+use Rattle.std.specs.Prelude.{IfSome, None, Option, Some, is_some, nat_lt, unwrap_or, ◌&&◌, ◌⊎◌}
 use Rattle.std.proofs.lemmas.Bool.{false≢true}
 use Rattle.lt_terms.specs.Log.{Change}
 use Rattle.lt_world.specs.Feed.{Feed}
@@ -11,12 +11,12 @@ use Rattle.lt_words.specs.Reply.{Refusal, above_durable, below_minimum, needs_re
 use Rattle.lt_storage.specs.Store.{Durable}
 use Rattle.lt_machine.specs.Machine.{Answer, Does, Job, State, StepBy, cat_of, compacted, flush_id, flushed_lists, is_broken, is_write, job_output, least, output_id, pending_of, refused, resumes, with_delta}
 use Rattle.lt_machine.specs.Sound.{FailedIsLater}
-use Rattle.lt_machine.specs.Run.{AfterFault, TakesSome, is_disk_fault}
+use Rattle.lt_machine.specs.Run.{AfterFault, TakesSome}
 use Rattle.lt_machine.specs.Laws.{MinimumNeverFalls}
 use Rattle.lt_codecs.proofs.ListFacts.{or_right}
 use Rattle.lt_lemmas.proofs.ListFacts.{when_none}
 use Rattle.lt_session_laws.proofs.StepLaws.{unrefused}
-use Rattle.lt_session_laws.proofs.FaultLaws.{would_do}
+use Rattle.lt_session_laws.proofs.FaultLaws.{disk_unrefused, would_do}
 
 -- the minimum did not fall, and what a failed command would have left has no lesser one
 abbrev Stays : State → State → Type 0
@@ -101,14 +101,10 @@ would_later : (c : Command) (feed : Feed) (source : List Change) (s : State) (d 
 would_later c feed source s d h e (inl w) = subst (λ (x : Durable). s.durable.minimum ≤ x.minimum) (sym w) (stood_later s.durable.minimum s.durable s.broken (omega arith) h)
 would_later c feed source s d h e (inr w) = subst (λ (x : Durable). s.durable.minimum ≤ x.minimum) (sym w.3) (does_later c feed source s w.1 w.0 h e w.2).0
 
-fault_unrefused : (s : State) (c : Command) (r : Refusal) → IsTrue (is_disk_fault r) → (r ≡ out_of_memory) ⊎ (refused s c ≡ None) → refused s c ≡ None
-fault_unrefused s c r disk (inl e) = let f : false ≡ true = sym (ap is_disk_fault e) ∙ disk in absurd cc
-fault_unrefused s c r disk (inr e) = e
-
 fault_later : (feed : Feed) (source : List Change) (s s' : State) (c : Command) (r : Refusal) → FailedIsLater s → (r ≡ out_of_memory) ⊎ (refused s c ≡ None) → AfterFault feed source s c r s' → Stays s s'
 fault_later feed source s s' c r h why (inl e) = stays_as s s' (ap (λ (x : State). x.durable.minimum) e) (ap (λ (x : State). x.broken) e) h
 fault_later feed source s s' c r h why (inr (inl t)) = took_later c feed s s' h t.1
-fault_later feed source s s' c r h why (inr (inr w)) = subst (Stays s) (sym w.1.2) (omega arith, would_later c feed source s w.1.0 h (fault_unrefused s c r w.0 why) (would_do c feed source s w.1.0 w.1.1))
+fault_later feed source s s' c r h why (inr (inr w)) = subst (Stays s) (sym w.1.2) (omega arith, would_later c feed source s w.1.0 h (disk_unrefused s c r w.0 why) (would_do c feed source s w.1.0 w.1.1))
 
 pub minimum_never_falls : MinimumNeverFalls
 minimum_never_falls = record {

@@ -11,7 +11,7 @@ use Rattle.lt_storage.specs.Store.{Durable, part_ranges}
 use Rattle.lt_machine.specs.Sound.{PendingOf, PendingOfAll}
 use Rattle.lt_codecs.proofs.ListFacts.{all_map}
 use Rattle.lt_session_laws.proofs.SplitLaws.{Each, each_as, lows_of}
-use Rattle.lt_laws.proofs.ReadLaws.{or_left, or_right}
+use Rattle.lt_lemmas.proofs.SnapshotLaws.{or_left, or_right}
 
 pub change_none : {A : Type 0} (n : ℕ) (xs : List A) → change_at (λ x. x) n xs ≡ xs
 change_none n [] = refl

@@ -12,8 +12,8 @@ use Rattle.lt_tables.specs.Fair.{HasHeader, IsPrefix, checkpoint_of, greatest_of
 use Rattle.lt_tables.specs.Schema.{Catalogue}
 use Rattle.lt_storage.specs.Store.{fits_63, is_point}
 use Rattle.lt_codecs.proofs.ListFacts.{all_front}
-use Rattle.lt_lemmas.proofs.TakenLaws.{left, right, spelled_length}
-use Rattle.lt_lemmas.proofs.PointLaws.{Ordered, fair_windows}
+use Rattle.lt_lemmas.proofs.TakenLaws.{spelled_length}
+use Rattle.lt_lemmas.proofs.PointLaws.{Ordered, fair_windows, left, right}
 use Rattle.lt_laws.proofs.FrontLaws.{fair_front}
 use Rattle.lt_laws.proofs.NewDelta.{tests_hold}
 use Rattle.lt_laws.proofs.TakenLaws.{lawful_changes}

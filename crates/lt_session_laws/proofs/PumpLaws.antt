@@ -19,7 +19,7 @@ use Rattle.lt_machine.specs.Machine.{State, cat_of, entering, ranges_of, stream_
 use Rattle.lt_lemmas.proofs.PumpLaws.{Name, as_version, as_versions}
 use Rattle.lt_lemmas.proofs.MergeLaws.{Above, before-other, ordered-above, ordered-cons, ordered-tail}
 use Rattle.lt_lemmas.proofs.PointLaws.{changes_of-append, itself, same}
-use Rattle.lt_laws.proofs.ListFacts.{contains_front, contains_rest}
+use Rattle.lt_laws.proofs.ListFacts.{contains_front, contains_rest, held_either}
 use Rattle.lt_laws.proofs.TakenLaws.{are_taken, moved_behind, stream_behind, taken_goes_on}
 use Rattle.lt_laws.proofs.FrontLaws.{fair_front}
 use Rattle.lt_laws.proofs.SoundLaws.{before-take}
@@ -242,29 +242,24 @@ record Moved (fs : List (Header × List Item)) (ss now : List StreamAt) (items :
   alone : (gs : List Header) → entering items gs → gs ≡ []
   passes : Passes (passed fs ss) (changes_of items) (passed fs now)
 
-append_cases : {A : Type 0} (xs ys : List A) (x : A) → Contains (xs ++ ys) x → Contains xs x ⊎ Contains ys x
-append_cases [] ys x h = inr h
-append_cases (y ∷ xs) ys x (zero, l, e) = inl (zero, omega arith, e)
-append_cases (y ∷ xs) ys x (suc k, l, e) = elim (append_cases xs ys x (k, omega (arith, l), e)) [ inl (i, j, g) ↦ inl (suc i, omega (arith, j), g) | inr h ↦ inr h ]
-
 passes_here : (cs more rest all : List Change) → all ≡ cs ++ more → Passes (cs ++ rest) more (all ++ rest)
 passes_here cs more rest all e = record {
-  old = λ c h. elim (append_cases cs rest c h) [
+  old = λ c h. elim (held_either cs rest c h) [
     | inl i ↦ contains_front all rest c (subst (λ (x : List Change). Contains x c) (sym e) (contains_front cs more c i))
     | inr i ↦ contains_rest all rest c i
   ];
   new = λ c h. contains_front all rest c (subst (λ (x : List Change). Contains x c) (sym e) (contains_rest cs more c h));
-  only = λ c h. elim (append_cases all rest c h) [
-    | inl i ↦ elim (append_cases cs more c (subst (λ (x : List Change). Contains x c) e i)) [ inl j ↦ inl (contains_front cs rest c j) | inr j ↦ inr j ]
+  only = λ c h. elim (held_either all rest c h) [
+    | inl i ↦ elim (held_either cs more c (subst (λ (x : List Change). Contains x c) e i)) [ inl j ↦ inl (contains_front cs rest c j) | inr j ↦ inr j ]
     | inr i ↦ inl (contains_rest cs rest c i)
   ];
 }
 
 passes_later : (first cs more all : List Change) → Passes cs more all → Passes (first ++ cs) more (first ++ all)
 passes_later first cs more all p = record {
-  old = λ c h. elim (append_cases first cs c h) [ inl i ↦ contains_front first all c i | inr i ↦ contains_rest first all c (p.old c i) ];
+  old = λ c h. elim (held_either first cs c h) [ inl i ↦ contains_front first all c i | inr i ↦ contains_rest first all c (p.old c i) ];
   new = λ c h. contains_rest first all c (p.new c h);
-  only = λ c h. elim (append_cases first all c h) [ inl i ↦ inl (contains_front first cs c i) | inr i ↦ elim (p.only c i) [ inl j ↦ inl (contains_rest first cs c j) | inr j ↦ inr j ] ];
+  only = λ c h. elim (held_either first all c h) [ inl i ↦ inl (contains_front first cs c i) | inr i ↦ elim (p.only c i) [ inl j ↦ inl (contains_rest first cs c j) | inr j ↦ inr j ] ];
 }
 
 moved_by_cases : (feed : Feed) (cat : Catalogue) (n m : ℕ) (items : List Item) (rest : List ℕ) (f : Header × List Item) (fs : List (Header × List Item)) (s stands : StreamAt) (ss : List StreamAt) (b : Bool) → (s.header.stream == n) ≡ b
@@ -310,7 +305,7 @@ pumped feed fs s n items rest stands good found t = let m = moved feed (cat_of s
   };
 }
 
-no_streams : (s : State) → with_streams [] s ≡ s
+pub no_streams : (s : State) → with_streams [] s ≡ s
 no_streams s = ap (λ (x : List StreamAt). record s { streams = x }) (append-nil s.streams)
 
 pub pump_keeps : (n asked : ℕ) → KeepsDoing (do_pump n asked)

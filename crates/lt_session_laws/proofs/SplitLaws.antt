@@ -25,11 +25,10 @@ use Rattle.lt_lemmas.proofs.PumpLaws.{as_version, as_versions}
 use Rattle.lt_lemmas.proofs.MergeLaws.{filter-ordered}
 use Rattle.lt_lemmas.proofs.ListFacts.{all_from, when_none}
 use Rattle.lt_lemmas.proofs.ClipLaws.{in-common}
-use Rattle.lt_lemmas.proofs.SnapshotLaws.{or_rest}
+use Rattle.lt_lemmas.proofs.SnapshotLaws.{or_left, or_rest, or_right}
 use Rattle.lt_laws.proofs.ScanLemmas.{from-filter, in-filter, seen-key}
 use Rattle.lt_session_laws.proofs.StepLaws.{KeepsDoing, all_pending_as, if_some, next_generation, pending_as, unrefused}
 use Rattle.lt_laws.proofs.ListFacts.{all_at}
-use Rattle.lt_laws.proofs.ReadLaws.{or_left, or_right}
 use Rattle.lt_laws.proofs.SoundLaws.{not-found}
 use Rattle.lt_machine.specs.Machine as machine
 use Rattle.lt_codecs.proofs.ListFacts as PointLaws

@@ -15,7 +15,7 @@ use Rattle.lt_machine.specs.Sound.{Stands}
 use Rattle.lt_machine.specs.Laws.{PumpLaws}
 use Rattle.lt_codecs.specs.Codec.{u32}
 use Rattle.lt_codecs.proofs.Codecs.{spell_apart, u32_is}
-use Rattle.lt_codecs.proofs.ListFacts.{heads, tails}
+use Rattle.lt_codecs.proofs.ListFacts.{all_rest, heads, tails}
 use Rattle.lt_codecs.proofs.LogTests.{small_limit}
 use Rattle.lt_codecs.proofs.FoundLaws.{kind_is, whole_splits}
 use Rattle.lt_codecs.proofs.LogLaws.{frames_prefix_free}
@@ -23,7 +23,7 @@ use Rattle.lt_lemmas.proofs.PointLaws.{none, point_suffices}
 use Rattle.lt_lemmas.proofs.TakenLaws.{moved_append, takes_append, takes_grow, takes_rest}
 use Rattle.lt_laws.proofs.FrontLaws.{Front, fair_front, header_unique}
 use Rattle.lt_laws.proofs.SoundLaws.{checkpoint-is}
-use Rattle.lt_laws.proofs.TakenLaws.{all_rest, behind_spells, moved_behind, stream_behind, taken_goes_on, with_items_append}
+use Rattle.lt_laws.proofs.TakenLaws.{behind_spells, moved_behind, stream_behind, taken_goes_on, with_items_append}
 use Rattle.lt_session_laws.proofs.PumpLaws.{stands_behind}
 use Rattle.lt_terms.specs.Log as log
 use Rattle.lt_terms.specs.declared.BadFrame.TheVariants as bad

@@ -19,10 +19,10 @@ use Rattle.lt_session_laws.proofs.JobLaws.{any_from, as_many, part_job_is}
 use Rattle.lt_lemmas.proofs.ListFacts.{all_filter}
 use Rattle.lt_laws.proofs.ListFacts.{contains_rest}
 use Rattle.lt_session_laws.proofs.PartsChanged.{any_there}
-use Rattle.lt_laws.proofs.ReadLaws.{or_left, or_right}
 use Rattle.lt_lemmas.proofs.SoundLaws.{pick}
 use Rattle.lt_session_laws.proofs.SplitLaws.{lies_itself}
 use Rattle.lt_steps.specs.Rooms.{CommitLengths, flush_delta, job_delta}
+use Rattle.lt_lemmas.proofs.SnapshotLaws.{or_left, or_right}
 
 -- ---- the new deltas
 

@@ -19,16 +19,16 @@ use Rattle.lt_lemmas.proofs.ClipLaws.{in-common}
 use Rattle.lt_codecs.proofs.ListFacts.{all_map}
 use Rattle.lt_session_laws.proofs.PartsChanged.{ranges_changed}
 use Rattle.lt_lemmas.proofs.PointLaws.{below_trans}
-use Rattle.lt_laws.proofs.ReadLaws.{or_left, or_right}
-use Rattle.lt_lemmas.proofs.SoundLaws.{pick}
+use Rattle.lt_lemmas.proofs.SoundLaws.{not-true, pick}
 use Rattle.lt_lemmas.proofs.SplitLaws.{meets_some}
 use Rattle.lt_session_laws.proofs.SplitLaws.{first_stays}
 use Rattle.lt_session_laws.proofs.StepLaws.{unrefused}
 use Rattle.lt_steps.proofs.CommitLaws.{has_part}
 use Rattle.lt_steps.proofs.JobKept.{same_job}
-use Rattle.lt_steps.proofs.SplitParts.{id_low, lower, not_false, range_before, split_at, upper}
+use Rattle.lt_steps.proofs.SplitParts.{id_low, lower, range_before, split_at, upper}
 use Rattle.lt_steps.specs.Covers.{ClaimsCoverAt, CoverLaws, CoversAt, IsInputOrLate, PartOfJob}
 use Rattle.lt_steps.specs.Jobs.{keeps_job}
+use Rattle.lt_lemmas.proofs.SnapshotLaws.{or_left, or_right}
 
 abbrev IsWithinFirst : Range → Range → Type 0
 IsWithinFirst r t = (key : List ℕ) → in_range key (common r t) ≡ true → in_range key r ≡ true
@@ -42,7 +42,7 @@ some_lies t ps = list_any (λ r. lies_in r t) (part_ranges ps)
 high_lower : (key : List ℕ) (a b : Option (List ℕ)) → is_below_high key a ≡ true → is_high_within a b ≡ true → is_high_within (Some key) b ≡ true
 high_lower key a None h i = refl
 high_lower key None (Some b) h i = absurd (false≢true i)
-high_lower key (Some a) (Some b) h i = pick (below b key) (λ e. absurd (false≢true (sym (not_false (below b a) i) ∙ below_trans b key a e h))) (λ e. ap not e)
+high_lower key (Some a) (Some b) h i = pick (below b key) (λ e. absurd (false≢true (sym (not-true (below b a) i) ∙ below_trans b key a e h))) (λ e. ap not e)
 
 lower_lies : (r t : Range) (key : List ℕ) → in_range key r ≡ true → lies_in r t ≡ true → lies_in (lower r key) t ≡ true
 lower_lies r t key w l =

@@ -166,7 +166,7 @@ reopen_leaves f source s do_status d r w = absurd (false≢true r)
 reopen_leaves f source s (do_deltas p) d r w = absurd (false≢true r)
 reopen_leaves f source s do_reopen d r w = w
 
-none_placed : (o : Option Placing) (b : Option Durable) → b ≡ None → IfSome o (λ l. IsSome b) → o ≡ None
+pub none_placed : (o : Option Placing) (b : Option Durable) → b ≡ None → IfSome o (λ l. IsSome b) → o ≡ None
 none_placed None b e h = refl
 none_placed (Some l) b e h = absurd (false≢true (subst (λ (c : Option Durable). is_some c ≡ true) e h))
 

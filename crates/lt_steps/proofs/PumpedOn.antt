@@ -1,5 +1,5 @@
 -- A pump's command: no stream enters, what was taken is given to the partitions, and nothing that lies at or below how far one is durable.
-use Rattle.std.proofs.Common.{Bool, List, [], ap, append-nil, cond, false, inl, inr, le-ltb, ltb-true, refl, subst, sym, true, ℕ, ◌+◌, ◌<◌, ◌∙◌, ◌∷◌, ◌≡◌, ◌≤◌}
+use Rattle.std.proofs.Common.{Bool, List, [], ap, cond, false, inl, inr, le-ltb, ltb-true, refl, subst, sym, true, ℕ, ◌+◌, ◌<◌, ◌∙◌, ◌∷◌, ◌≡◌, ◌≤◌}
 use Rattle.std.specs.Prelude.{Contains, IsTrue, None, Option, Some, find, nat_lt, ◌&&◌, ◌==◌, ◌⊎◌}
 use Rattle.std.specs.List.{AllByRecursion}
 use Rattle.std.proofs.lemmas.Bool.{and_parts}
@@ -15,7 +15,7 @@ use Rattle.lt_words.specs.Reply.{Refusal}
 use Rattle.lt_tables.specs.Schema.{Catalogue}
 use Rattle.lt_tables.specs.Query.{do_pump}
 use Rattle.lt_machine.specs.Sound.{AreAtPlaces, FrontsFrom, IsGood, source_of}
-use Rattle.lt_session_laws.proofs.PumpLaws.{none_enter}
+use Rattle.lt_session_laws.proofs.PumpLaws.{no_streams, none_enter}
 use Rattle.lt_codecs.proofs.ListFacts.{all_map}
 use Rattle.lt_lemmas.proofs.ListFacts.{all_contained, all_from, find_all}
 use Rattle.lt_laws.proofs.ListFacts.{all_at}
@@ -37,9 +37,6 @@ streams_read f cat n (g ∷ gs) (s ∷ ss) a b = (subst (λ (h : Header). IsTrue
 pub are_items : (f : Feed) (cat : Catalogue) (a : StreamAt) (items : List Item) (rest : List ℕ) → Takes f cat a items rest → AllByRecursion (λ i. IsTrue (is_item a.header.format i)) items
 are_items f cat a [] rest t = tt
 are_items f cat a (i ∷ items) rest t = (t.0, are_items f cat (moved_by (i ∷ []) a) items rest t.4)
-
-no_streams : (s : State) → with_streams [] s ≡ s
-no_streams s = ap (λ (x : List StreamAt). record s { streams = x }) (append-nil s.streams)
 
 -- what a pump's command takes of its stream, in a session that belongs to a feed
 pub record Took (f : Feed) (s s' : State) (n : ℕ) : Type 0 where

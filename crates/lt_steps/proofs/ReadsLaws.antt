@@ -1,6 +1,6 @@
 -- What a session holds in memory, gone over partition by partition, answers in the window as the source does, where nothing is on the shelf.
-use Rattle.std.proofs.Common.{Bool, List, [], ap, append-nil, arith, cond, eqb-true, false, fold, inl, inr, le-leb, le-ltb, leb-true, length, lt-ltb, ltb-true, refl, reverse, subst, suc, sym, true, zero, ℕ, ◌+◌, ◌++◌, ◌<◌, ◌∙◌, ◌∷◌, ◌≡◌, ◌≤◌}
-use Rattle.std.specs.Prelude.{Contains, IsTrue, None, Option, Some, filter, find, flat_map, map, nat_le, nat_lt, option_and_then, zip, ◌&&◌, ◌==◌, ◌||◌, ◌⊎◌}
+use Rattle.std.proofs.Common.{Bool, List, [], ap, append-nil, arith, cond, eqb-true, false, fold, inl, inr, le-leb, le-ltb, leb-true, lt-ltb, ltb-true, refl, reverse, subst, suc, sym, true, zero, ℕ, ◌++◌, ◌<◌, ◌∙◌, ◌∷◌, ◌≡◌, ◌≤◌}
+use Rattle.std.specs.Prelude.{Contains, IsTrue, None, Option, Some, filter, flat_map, map, nat_le, nat_lt, option_and_then, zip, ◌&&◌, ◌==◌, ◌||◌, ◌⊎◌}
 use Rattle.std.specs.Int.{to_be_bytes, w32}
 use Rattle.std.specs.List.{AllByRecursion, list_any}
 use Rattle.std.specs.Option.{option_map_or}
@@ -8,7 +8,7 @@ use Rattle.std.proofs.lemmas.Bool.{and_from, and_parts, false≢true, lt-leb, or
 use Rattle.std.proofs.lemmas.List.{reverse-append, take_at}
 use Rattle.std.proofs.lemmas.List.Elements.{filter-append}
 use Rattle.lt_terms.specs.Value.{rises_above, rises_strictly}
-use Rattle.lt_terms.specs.Key.{KeyPart, Range, below, in_range, key_bytes, max_key, meets, part_bytes, same_key, tile}
+use Rattle.lt_terms.specs.Key.{KeyPart, Range, below, in_range, key_bytes, meets, part_bytes, same_key, tile}
 use Rattle.lt_terms.specs.Conversion.{same_bytes}
 use Rattle.lt_tables.specs.Schema.{Catalogue, Table, registered, table_numbered}
 use Rattle.lt_terms.specs.Log.{Change, Header, Item, change_key, u32}
@@ -17,34 +17,32 @@ use Rattle.lt_tables.specs.Fair.{changes_to, has_change_shape}
 use Rattle.lt_tables.specs.Row.{Row, after_change, changes_up_to, is_in_time, row_after, row_at}
 use Rattle.lt_storage.specs.Bundle.{has_table}
 use Rattle.lt_tables.specs.Row.{IsKeyed}
-use Rattle.lt_tables.specs.Pump.{numbered_from}
 use Rattle.lt_machine.specs.Machine.{State, cat_of, checkpoint_at, checkpoints_meeting, first_below, least, query_interval, ranges_of}
 use Rattle.lt_tables.specs.Pump.{is_deliverable, name_of}
 use Rattle.lt_machine.specs.Sound.{Memory}
 use Rattle.lt_machine.specs.Sound.{IsGood, PendingOf, PendingOfAll, SoundPart, SoundParts, passed, source_of, up_to_ts}
 use Rattle.lt_tables.specs.Pump.{Part}
-use Rattle.lt_storage.specs.Store.{Delta, Durable, carried_versions, deltas_of, part_ranges, stored}
+use Rattle.lt_storage.specs.Store.{Delta, Durable, carried_versions, deltas_of, stored}
 use Rattle.lt_tables.specs.Version.{RowVersion, clip, effect_of, is_ordered, merge, seen}
 use Rattle.lt_laws.proofs.AnswerLaws.{IsSound, sound_from}
 use Rattle.lt_lemmas.proofs.ConversionLemmas.{same_bytes-self}
 use Rattle.lt_laws.proofs.FairLaws.{none_to}
 use Rattle.lt_laws.proofs.HeldLaws.{once, rises_tail}
-use Rattle.lt_codecs.proofs.ListFacts.{all_append, all_map}
+use Rattle.lt_codecs.proofs.ListFacts.{all_append, all_map, none_mapped}
 use Rattle.lt_lemmas.proofs.ListFacts.{all_from}
-use Rattle.lt_laws.proofs.ListFacts.{all_at, contains_front, contains_rest, from_map, held_either, held_one, in_map}
+use Rattle.lt_laws.proofs.ListFacts.{all_at, contains_cons, contains_front, contains_rest, from_map, held_either, held_one, in_map}
 use Rattle.lt_lemmas.proofs.MergeLaws.{Above, ordered-above, ordered-tail}
 use Rattle.lt_lemmas.proofs.PointLaws.{itself, same}
 use Rattle.lt_lemmas.proofs.PumpLaws.{Name, as_version, as_versions}
 use Rattle.lt_lemmas.proofs.RangeLaws.{IsOutOf, IsSole, tile_sole}
 use Rattle.lt_laws.proofs.RangeLaws.{source_in_time}
-use Rattle.lt_lemmas.proofs.RowLemmas.{reads_in_order}
-use Rattle.lt_laws.proofs.ScanLaws.{IsPassed, any_of, passed_all, tiles_of}
+use Rattle.lt_lemmas.proofs.RowLemmas.{reads_in_order, rises_filtered}
+use Rattle.lt_laws.proofs.ScanLaws.{IsPassed, in_a_part, passed_all, safe_parts, tiles_of}
 use Rattle.lt_laws.proofs.ScanLemmas.{from-filter, in-filter}
 use Rattle.lt_lemmas.proofs.SnapshotLaws.{apart, no_row, or_rest}
 use Rattle.lt_laws.proofs.SnapshotLaws.{answer_by_rows}
 use Rattle.lt_lemmas.proofs.SoundLaws.{meets-by, pick}
-use Rattle.lt_laws.proofs.SoundLaws.{at-least, in-some-part, le-false, le-true, least-all, max-other, none-mapped, not-found}
-use Rattle.lt_lemmas.proofs.TakenLaws.{left, right}
+use Rattle.lt_laws.proofs.SoundLaws.{le-false, le-true, least-all, max-other}
 use Rattle.lt_laws.proofs.TakenLaws.{change_shaped, source_keyed}
 use Rattle.lt_lemmas.proofs.VersionGrowth.{its_number}
 use Rattle.lt_laws.proofs.WidenedRows.{sound_shape}
@@ -65,9 +63,6 @@ not_in_none : {A : Type 0} (xs : List A) (x : A) → xs ≡ [] → Contains xs x
 not_in_none xs x e h = let k : Contains [] x = subst (λ ys. Contains ys x) e h in absurd (omega (arith, k.1))
 
 -- ---- lists from behind
-
-contains_cons : {A : Type 0} (y : A) (xs : List A) (x : A) → Contains xs x → Contains (y ∷ xs) x
-contains_cons y xs x h = (suc h.0, omega (arith, h.1), h.2)
 
 in_reverse : {A : Type 0} (xs : List A) (x : A) → Contains xs x → Contains (reverse xs) x
 in_reverse [] x h = h
@@ -122,19 +117,13 @@ rises_lower low high (c ∷ cs) l r =
     let p = and_parts (nat_lt high c.ts) (rises_above c.ts (times cs)) r in
     let h : high < c.ts = ltb-true high c.ts p.0 in and_from (nat_lt low c.ts) _ (lt-ltb low c.ts (omega (arith, l, h))) p.1
 
-rises_left : (p : Change → Bool) (low : ℕ) (cs : List Change) → IsTrue (rises_above low (times cs)) → IsTrue (rises_above low (times (filter p cs)))
-rises_left p low [] r = refl
-rises_left p low (c ∷ cs) r =
-    let k = and_parts (nat_lt low c.ts) (rises_above c.ts (times cs)) r in
-    let s = rises_left p c.ts cs k.1 in rises_left_by p low c cs (p c) k.0 s (rises_lower low c.ts (filter p cs) (ltb-true low c.ts k.0) s)
-
 left_by : (p : Change → Bool) (c : Change) (cs : List Change) (b : Bool) → IsTrue (rises_above c.ts (times (filter p cs))) → IsTrue (rises_strictly (times (cond b (c ∷ filter p cs) (filter p cs))))
 left_by p c cs true r = r
 left_by p c cs false r = rises_tail c.ts (times (filter p cs)) r
 
 some_rise : (p : Change → Bool) (cs : List Change) → IsTrue (rises_strictly (times cs)) → IsTrue (rises_strictly (times (filter p cs)))
 some_rise p [] r = refl
-some_rise p (c ∷ cs) r = left_by p c cs (p c) (rises_left p c.ts cs r)
+some_rise p (c ∷ cs) r = left_by p c cs (p c) (rises_filtered p c.ts cs r)
 
 in_cases : (d : Change) (cs : List Change) (c : Change) → Contains (d ∷ cs) c → (d ≡ c) ⊎ Contains cs c
 in_cases d cs c (zero, l, e) = inl e
@@ -298,10 +287,6 @@ part_of_key fs s cs key (p ∷ ps) (r ∷ rs) (m ∷ mem) a b k o e = pick (in_r
     (λ h. part_here fs s cs key p r m ps rs mem a.0 b.0 k.0 b.1 (o.0 h) h)
     (λ h. part_later fs s cs key p r m (zip ps rs) mem b.0 h (part_of_key fs s cs key ps rs mem a.1 b.1 k.1 o.1 (or_rest (in_range key r) (list_any (λ (x : Part × Range). in_range key x.1) (zip ps rs)) h e)))
 
-in_a_part : (key : List ℕ) (ps : List Part) → IsTrue (tile (map (λ p. p.low) ps)) → list_any (λ x. in_range key x.1) (zip ps (part_ranges ps)) ≡ true
-in_a_part key ps t = in-some-part key (list_any (λ x. in_range key x.1) (zip ps (part_ranges ps)) ≡ true) ps t
-    (all_from (λ x. in_range key x.1 ≡ true → list_any (λ x. in_range key x.1) (zip ps (part_ranges ps)) ≡ true) (zip ps (part_ranges ps)) (λ x h e. any_of (λ (x : Part × Range). in_range key x.1) (zip ps (part_ranges ps)) x h e))
-
 -- a session that belongs to fronts, with what it holds in memory
 record Belongs (f : Feed) (s : State) (fs : List (Header × List Item)) (mem : Memory) : Type 0 where
   good : IsGood f s fs
@@ -330,14 +315,6 @@ memory_in_time f s fs mem key b =
 abbrev IsSafe : State → Range → ℕ → Part × Range → Type 0
 IsSafe s i t x = IsTrue (meets x.1 i) → t ≤ checkpoint_at s.streams x.0 x.1
 
-safe_parts : (s : State) (i : Range) (t n : ℕ) (ps : List Part) (rs : List Range)
-    → find (λ x. meets x.1.0 i && nat_lt x.1.1 t) (numbered_from n (zip rs (map (λ x. checkpoint_at s.streams x.0 x.1) (zip ps rs)))) ≡ None → AllByRecursion (IsSafe s i t) (zip ps rs)
-safe_parts s i t n [] rs e = tt
-safe_parts s i t n (p ∷ ps) [] e = tt
-safe_parts s i t n (p ∷ ps) (r ∷ rs) e =
-    let k = not-found (meets r i && nat_lt (checkpoint_at s.streams p r) t) (n, (r, checkpoint_at s.streams p r)) _ e in
-    ((λ m. at-least (meets r i) (checkpoint_at s.streams p r) t k.0 m), safe_parts s i t (n + 1) ps rs k.1)
-
 -- the change of a pending name is held
 named_held : (source : List Change) (held : List Change) (c : Change) → IsTrue (is_in_time (change_key c) source) → AllByRecursion (Contains source) held → Contains source c → Contains (map name_of held) (change_key c, c.ts) → Contains held c
 named_held source held c time known h n =
@@ -357,7 +334,7 @@ held_change f s fs mem key i at b bare safe inside p c h e low up =
     (λ d. absurd (not_stored (p.sound.all_changes c h within low (le-true c.ts p.part.resume d))))
     (λ d.
     let late : p.part.resume < c.ts = le-false c.ts p.part.resume d in
-    let parts = safe_parts s i at 0 s.durable.parts (ranges_of s.durable) (none-mapped (λ x. (x.0, x.1.1)) _ safe) in
+    let parts = safe_parts s i at 0 s.durable.parts (ranges_of s.durable) (none_mapped (λ x. (x.0, x.1.1)) _ safe) in
     let passes : at ≤ checkpoint_at s.streams p.part p.range = all_at (IsSafe s i at) (zip s.durable.parts (ranges_of s.durable)) (p.part, p.range) parts p.listed (meets-by key p.range i p.within inside) in
     let behind : at ≤ least (checkpoints_meeting s.streams p.range) = max-other at p.part.resume (least (checkpoints_meeting s.streams p.range)) passes (omega (arith, late, up)) in
     let was : Contains (passed fs s.streams) c = all_at (IsPassed p.range at (passed fs s.streams)) source c
@@ -383,7 +360,7 @@ no_early_row f s fs p r key (c ∷ cs) good bare sound within e =
     let n : x.table.number ≡ c.table = its_number (cat_of s) c.table x.table x.known in
     let has : IsTrue (has_table x.table.number key) = subst (λ (y : List ℕ). IsTrue (has_table x.table.number y)) k (subst (λ (m : ℕ). IsTrue (has_table m (change_key c))) (sym n) (key_has_table c.table c.key)) in
     let row = sound.rows x.table key (ap (table_numbered (cat_of s)) n ∙ x.known) within has in
-    none-mapped _ (row_at source key s.durable.minimum) (sym row ∙ ap (λ (vs : List RowVersion). effect_of (up_to_ts key s.durable.minimum vs)) (none_stored s.durable p r x.table.number bare))
+    none_mapped _ (row_at source key s.durable.minimum) (sym row ∙ ap (λ (vs : List RowVersion). effect_of (up_to_ts key s.durable.minimum vs)) (none_stored s.durable p r x.table.number bare))
 
 -- ---- so the rows agree
 

@@ -23,10 +23,9 @@ use Rattle.lt_lemmas.proofs.ListFacts.{when_none}
 use Rattle.lt_session_laws.proofs.PumpLaws.{pump_keeps}
 use Rattle.lt_session_laws.proofs.JobLaws.{as_many}
 use Rattle.lt_lemmas.proofs.RangeLaws.{IsOutOf, IsSole, tile_sole}
-use Rattle.lt_laws.proofs.ReadLaws.{or_left, or_right}
 use Rattle.lt_laws.proofs.ScanLaws.{tiles_of}
 use Rattle.lt_lemmas.proofs.SoundLaws.{meets-by, pick}
-use Rattle.lt_laws.proofs.SoundLaws.{at-least, none-mapped, not-found}
+use Rattle.lt_laws.proofs.SoundLaws.{at-least, not-found}
 use Rattle.lt_lemmas.proofs.SplitLaws.{meets_some}
 use Rattle.lt_session_laws.proofs.SplitLaws.{Each, first_stays, lows_of}
 use Rattle.lt_session_laws.proofs.StepLaws.{headers_are, refusals}
@@ -37,6 +36,8 @@ use Rattle.lt_steps.proofs.SplitParts.{id_low, in_lower, in_upper, lower, range_
 use Rattle.lt_steps.proofs.TookLaws.{took_some}
 use Rattle.lt_steps.proofs.StreamsRise.{OffsetsRise, StreamsRise, all_open, any_of_ranges, checkpoint_up, checkpoint_within, has_key, moved_on, streams_rise, tiles_have}
 use Rattle.lt_steps.specs.Rising.{NothingFalls}
+use Rattle.lt_lemmas.proofs.SnapshotLaws.{or_left, or_right}
+use Rattle.lt_codecs.proofs.ListFacts.{none_mapped}
 
 -- ---- the checkpoint of a key's partition
 
@@ -313,7 +314,7 @@ stays_safe s s' q t lawful now rise e =
     let qs = s'.durable.parts in
     let tiles = tiles_of s.durable lawful in
     let tiled = tiles_of s'.durable now in
-    let none = none-mapped (λ (x : ℕ × (Range × ℕ)). (x.0, x.1.1)) (below_in s.streams q t 0 ps (part_ranges ps)) e in
+    let none = none_mapped (λ (x : ℕ × (Range × ℕ)). (x.0, x.1.1)) (below_in s.streams q t 0 ps (part_ranges ps)) e in
     let was = safe_parts s.streams q t 0 ps (part_ranges ps) (as_many ps) none in
     ap (option_map (λ (x : ℕ × (Range × ℕ)). (x.0, x.1.1))) (parts_safe s'.streams q t 0 qs (part_ranges qs) (keys_safe s'.streams q t qs (part_ranges qs) (as_many qs) (λ key. tile_sole key (lows_of qs) tiled)
     (λ key w i.

@@ -1,7 +1,7 @@
 -- Partitions that are split or list other deltas: their ranges, and up to when they are durable.
 use Rattle.std.proofs.Common.{Bool, List, ap, cond, false, refl, true, ℕ, ◌≡◌}
 use Rattle.std.specs.Prelude.{None, Option, Some, not}
-use Rattle.std.proofs.lemmas.Bool.{and_from, and_parts, false≢true}
+use Rattle.std.proofs.lemmas.Bool.{and_from, and_parts}
 use Rattle.lt_terms.specs.Key.{Range, below, first_bound, in_range, is_below_high}
 use Rattle.lt_machine.specs.Machine.{Job, replaced, split_parts, with_id, with_resume}
 use Rattle.lt_tables.specs.Pump.{Part}
@@ -9,6 +9,7 @@ use Rattle.lt_storage.specs.Store.{part_ranges}
 use Rattle.lt_lemmas.proofs.PointLaws.{below_trans}
 use Rattle.lt_lemmas.proofs.SplitLaws.{not_below_trans}
 use Rattle.lt_session_laws.proofs.SplitLaws.{lows_of}
+use Rattle.lt_lemmas.proofs.SoundLaws.{not-true}
 
 -- ---- a split
 
@@ -33,10 +34,6 @@ high_above : (k key : List ℕ) (o : Option (List ℕ)) → below k key ≡ true
 high_above k key None h i = refl
 high_above k key (Some high) h i = below_trans k key high h i
 
-pub not_false : (b : Bool) → not b ≡ true → b ≡ false
-not_false true h = absurd (false≢true h)
-not_false false h = refl
-
 pub in_lower : (r : Range) (key : List ℕ) → in_range key r ≡ true → IsWithin (lower r key) r
 in_lower r key w k h = let p = and_parts (not (below k r.low)) (below k key) h in and_from _ _ p.0 (high_above k key r.high p.1 (and_parts (not (below key r.low)) (is_below_high key r.high) w).1)
 
@@ -44,7 +41,7 @@ pub in_upper : (r : Range) (key : List ℕ) → in_range key r ≡ true → IsWi
 in_upper r key w k h =
     let p = and_parts (not (below k key)) (is_below_high k r.high) h in
     let q = and_parts (not (below key r.low)) (is_below_high key r.high) w in
-    and_from _ _ (ap not (not_below_trans k key r.low (not_false (below k key) p.0) (not_false (below key r.low) q.0))) p.1
+    and_from _ _ (ap not (not_below_trans k key r.low (not-true (below k key) p.0) (not-true (below key r.low) q.0))) p.1
 
 -- ---- partitions that list other deltas
 

@@ -1,5 +1,5 @@
 -- A version that is added or retired leaves what is held: under the longer catalogue the source has what it had.
-use Rattle.std.proofs.Common.{Bool, List, [], ap, false, length, refl, subst, sym, true, ℕ, ◌∙◌, ◌≡◌}
+use Rattle.std.proofs.Common.{List, [], ap, false, length, refl, subst, sym, true, ℕ, ◌∙◌, ◌≡◌}
 use Rattle.std.specs.Prelude.{Contains, Err, None, Ok, Option, Result, Some, if◌then◌else◌, is_none, not, option_and_then, ◌==◌}
 use Rattle.std.specs.List.{AllByRecursion}
 use Rattle.std.specs.Option.{option_map_or}
@@ -18,7 +18,7 @@ use Rattle.lt_codecs.proofs.ListFacts.{all_map}
 use Rattle.lt_lemmas.proofs.ListFacts.{when_none}
 use Rattle.lt_codecs.proofs.LogLaws.{frames_prefix_free}
 use Rattle.lt_laws.proofs.AnswerLaws.{named_is_numbered}
-use Rattle.lt_session_laws.proofs.CatalogueSteps.{retire_keeps, schema_keeps}
+use Rattle.lt_session_laws.proofs.CatalogueSteps.{none_refuses, retire_keeps, schema_keeps}
 use Rattle.lt_lemmas.proofs.FrontLaws.{grows_itself}
 use Rattle.lt_laws.proofs.FrontLaws.{fronts_stay}
 use Rattle.lt_laws.proofs.ListFacts.{all_at}
@@ -36,12 +36,6 @@ became_added : (cat wide : Catalogue) (r : Result SchemaVersion JsonFault) → a
 became_added cat wide (Ok v) h = added_by cat wide v (schema_fault cat v) refl h
 became_added cat wide (Err e) h = cc
 
-tests : (c d l : Bool) → c ≡ false → d ≡ true → l ≡ false → (if c then Some unknown_version else (if not d then Some already_retired else when l last_version)) ≡ None
-tests true d l e f g = absurd (false≢true (sym e))
-tests false false l e f g = absurd (false≢true f)
-tests false true true e f g = absurd (false≢true (sym g))
-tests false true false e f g = refl
-
 live_version : (q : Option Registered) → is_none q ≡ false → option_map_or (λ r. not r.live) q false ≡ false → option_map_or (λ r. r.live) q false ≡ true
 live_version None i j = absurd (false≢true (sym i))
 live_version (Some r) i j = not-false r.live j
@@ -52,7 +46,7 @@ fault_by : (x : Table) (v : ℕ) (o : Option Table) → o ≡ Some x → is_none
 fault_by x v None k i j l = cc
 fault_by x v (Some y) k i j l =
     let d : y ≡ x = cc in
-    tests (is_none (registered y v)) (option_map_or (λ r. r.live) (registered y v) false) (v == length y.versions) (ap (λ (z : Table). is_none (registered z v)) d ∙ i)
+    none_refuses (is_none (registered y v)) (option_map_or (λ r. r.live) (registered y v) false) (v == length y.versions) (ap (λ (z : Table). is_none (registered z v)) d ∙ i)
     (ap (λ (z : Table). option_map_or (λ r. r.live) (registered z v) false) d ∙ live_version (registered x v) i j) (ap (λ (z : Table). v == length z.versions) d ∙ l)
 
 -- a version that the state does not refuse to retire can be retired

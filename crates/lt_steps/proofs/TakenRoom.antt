@@ -1,19 +1,19 @@
 -- Extents that are taken for pieces one after another, each at the lowest gap; one that finds none is out of room.
 use Rattle.std.proofs.Common.{Bool, List, [], ap, ap₂, append-nil, append_assoc, arith, length, refl, subst, suc, sym, take, true, zero, ℕ, ◌+◌, ◌++◌, ◌∙◌, ◌∷◌, ◌≡◌}
-use Rattle.std.specs.Prelude.{IfSome, IsSome, IsTrue, None, Option, Some, is_some, nat_le, slice_get, ◌&&◌}
+use Rattle.std.specs.Prelude.{IsTrue, None, Some, nat_le, slice_get, ◌&&◌}
 use Rattle.std.specs.List.{AllByRecursion, list_all}
-use Rattle.std.proofs.lemmas.Bool.{and_from, and_parts, false≢true}
+use Rattle.std.proofs.lemmas.Bool.{and_from, and_parts}
 use Rattle.std.proofs.lemmas.List.{length-append, map-append}
 use Rattle.lt_terms.specs.declared.Extent.{Extent}
 use Rattle.lt_machine.specs.Machine.{is_write, refused}
 use Rattle.lt_machine.specs.Sound.{Session}
 use Rattle.lt_machine.specs.Outside.{AreBesides, AreTaken}
 use Rattle.lt_world.specs.Extents.{IsFull, IsLowestGap, apart, end_of, is_gap}
-use Rattle.lt_storage.specs.Store.{Durable, Placing}
 use Rattle.lt_laws.proofs.ListFacts.{all_at}
 use Rattle.lt_tables.specs.Query.{Command}
 use Rattle.lt_steps.proofs.RisingLaws.{unbroken}
 use Rattle.lt_steps.specs.Rooms.{AreFor, HasAll, RoomIsTaken}
+use Rattle.lt_steps.proofs.ImageLaws.{none_placed}
 
 -- ---- one more
 
@@ -58,12 +58,8 @@ full_as most xs ys need room h i g = record { short = g.short; longest = λ e f.
 
 -- ---- nothing of a failed command
 
-none_left : (o : Option Placing) (b : Option Durable) → b ≡ None → IfSome o (λ l. IsSome b) → o ≡ None
-none_left None b e h = refl
-none_left (Some l) b e h = absurd (false≢true (subst (λ (c : Option Durable). is_some c ≡ true) e h))
-
 none_failed : (x : Session) (c : Command) → is_write c ≡ true → refused x.state c ≡ None → AreBesides x → x.failed ≡ None
-none_failed x c w e h = none_left x.failed x.state.broken (unbroken x.state c w e) h.of_failed
+none_failed x c w e h = none_placed x.failed x.state.broken (unbroken x.state c w e) h.of_failed
 
 pub room_is_taken : RoomIsTaken
 room_is_taken = record {

@@ -59,7 +59,7 @@ above_rises : (low : ℕ) (ns : List ℕ) → IsTrue (rises_above low ns) → Is
 above_rises low [] h = refl
 above_rises low (n ∷ ns) h = (and_parts (nat_lt low n) (rises_above n ns) h).1
 
-all_above : (low : ℕ) (ns : List ℕ) → IsTrue (rises_above low ns) → AllByRecursion (λ n. low < n) ns
+pub all_above : (low : ℕ) (ns : List ℕ) → IsTrue (rises_above low ns) → AllByRecursion (λ n. low < n) ns
 all_above low [] h = tt
 all_above low (n ∷ ns) h =
     let p = and_parts (nat_lt low n) (rises_above n ns) h in

@@ -235,7 +235,7 @@ added_spelled cat v [] s a few = (new_spelled cat v s, tt)
 added_spelled cat v (t ∷ ts) s a few = added_by cat v t ts (t.number == v.number) (nat_lt v.number t.number) refl s a (added_spelled cat v ts s a.1) few
 
 -- a version that is retired keeps its columns
-retired_length : (rs : List Registered) (k : ℕ) → length (change_at retired_version k rs) ≡ length rs
+pub retired_length : (rs : List Registered) (k : ℕ) → length (change_at retired_version k rs) ≡ length rs
 retired_length [] k = refl
 retired_length (r ∷ rs) zero = refl
 retired_length (r ∷ rs) (suc k) = ap suc (retired_length rs k)

@@ -1,7 +1,7 @@
 -- A catalogue that is not lawful, computed: a table made anew hides the one behind it.
 use Rattle.std.specs.Str.{chars, is_utf8}
 use lib.Utf8.{encode}
-use Rattle.std.proofs.Common.{[], false, refl, true, ◌++◌, ◌+◌, ◌∷◌, ◌≡◌}
+use Rattle.std.proofs.Common.{[], false, refl, true, ◌++◌, ◌∷◌, ◌≡◌}
 use Rattle.std.specs.Prelude.{None, codes}
 use Rattle.lt_terms.specs.Conversion.{at_rank, number_of_text}
 use Rattle.lt_terms.specs.Kind.{plain}

@@ -16,9 +16,8 @@ use Rattle.lt_laws.proofs.ClipLaws.{coerce-ordered}
 use Rattle.lt_laws.proofs.CollapseLaws.{goes_made, made_version}
 use Rattle.lt_laws.proofs.TableGrowth.{are_columns, cols, layout_columns}
 use Rattle.lt_laws.proofs.LeafLaws.{IsMarked}
-use Rattle.lt_codecs.proofs.ListFacts.{all_map}
+use Rattle.lt_codecs.proofs.ListFacts.{all_map, all_to_map}
 use Rattle.lt_lemmas.proofs.ListFacts.{all_filter, all_from}
-use Rattle.lt_laws.proofs.ListFacts.{all_to_map}
 use Rattle.lt_laws.proofs.ScanLaws.{any_of}
 use Rattle.lt_lemmas.proofs.TableLaws.{fine_table}
 use Rattle.lt_laws.proofs.VersionGrowth.{widens_itself}

@@ -2,9 +2,7 @@
 use Rattle.std.proofs.Common.{Bool, List, [], ap, ap₂, cond, false, refl, subst, sym, true, ℕ, ◌++◌, ◌∙◌, ◌∷◌, ◌≡◌}
 use Rattle.std.specs.Prelude.{IsTrue, Some, filter, flat_map, length, map, nat_le, nat_lt, not, zip, ⊤, ◌&&◌}
 use Rattle.std.specs.List.{AllByRecursion, list_all}
-use Rattle.std.specs.Ordering.{is_lt}
 use Rattle.std.proofs.lemmas.Bool.{and_parts, false≢true}
-use Rattle.std.proofs.lemmas.Cmp.{nat_list_cmp_total, tied_itself}
 use Rattle.lt_terms.specs.Key.{Range, below, common, in_range, is_below_high, is_empty_range, meets, ranges_from, rise, same_key, tile}
 use Rattle.lt_terms.specs.Log.{Change}
 use Rattle.lt_machine.specs.Machine.{State, cat_of, ranges_of}
@@ -13,7 +11,7 @@ use Rattle.lt_machine.specs.Outside.{held_with, memory_versions}
 use Rattle.lt_tables.specs.Pump.{Part}
 use Rattle.lt_storage.specs.Store.{IsLawfulPart, bare_manifest, carried_versions, deltas_of, is_part_entry, stored}
 use Rattle.lt_tables.specs.Version.{RowVersion, asof, clip, is_ordered, merge, stands_before}
-use Rattle.lt_lemmas.proofs.SnapshotLaws.{apart}
+use Rattle.lt_lemmas.proofs.SnapshotLaws.{apart, or_left}
 use Rattle.lt_lemmas.proofs.ClipLaws.{below-upto, key-trans}
 use Rattle.lt_laws.proofs.ClipLaws.{clip-clip, filter-swap}
 use Rattle.lt_codecs.proofs.ListFacts.{all_append, all_map}
@@ -22,7 +20,6 @@ use Rattle.lt_lemmas.proofs.MergeLaws.{Above, ordered-above, ordered-cons, order
 use Rattle.lt_laws.proofs.MergeLaws.{clip-merge, merge-ordered}
 use Rattle.lt_laws.proofs.MomentLaws.{asof-clip}
 use Rattle.lt_lemmas.proofs.RangeLaws.{tile_rises}
-use Rattle.lt_laws.proofs.ReadLaws.{or_left}
 use Rattle.lt_laws.proofs.WidenedStore.{named_lawful}
 use Rattle.lt_version_laws.specs.MemoryLists.{AreLogged, HaveVersions}
 use Rattle.lt_version_laws.specs.Steps.{BeginsApart}
@@ -67,9 +64,6 @@ parts_in key r h = let p = and_parts (not (below key r.low)) (is_below_high key 
 first_under : (low next : List ℕ) (more : List (List ℕ)) → IsTrue (rise (next ∷ more)) → AllByRecursion (IsUnder (record { low = low; high = Some next })) (ranges_from (next ∷ more))
 first_under low next more h = all_map (λ (s : Range). (k : List ℕ) → below k next ≡ true → below k s.low ≡ true) (IsUnder (record { low = low; high = Some next })) (ranges_from (next ∷ more))
     (λ s f k l i j. below-upto k s.low l (f k (parts_in k (record { low = low; high = Some next }) i).1) (parts_in l s j).0) (bounds_above next more h)
-
-pub not_itself : (k : List ℕ) → below k k ≡ false
-not_itself k = ap is_lt (tied_itself nat_list_cmp_total k)
 
 in_turn : (lows : List (List ℕ)) → IsTrue (rise lows) → InTurn (ranges_from lows)
 in_turn [] h = tt

@@ -12,9 +12,9 @@ use Rattle.lt_laws.proofs.LaidLaws.{over_agrees, over_fits}
 use Rattle.lt_laws.proofs.CoerceLaws.{over, overlay_length}
 use Rattle.lt_laws.proofs.CollapseLaws.{collapse_all, rolled_all}
 use Rattle.lt_laws.proofs.MergeLaws.{merge-ordered, merged_member}
-use Rattle.lt_codecs.proofs.ListFacts.{all_both, all_map}
+use Rattle.lt_codecs.proofs.ListFacts.{all_both, all_map, all_of_map, all_to_map}
 use Rattle.lt_lemmas.proofs.ListFacts.{all_filter, all_from}
-use Rattle.lt_laws.proofs.ListFacts.{all_at, all_of_map, all_to_map}
+use Rattle.lt_laws.proofs.ListFacts.{all_at}
 use Rattle.lt_laws.proofs.MomentLaws.{asof-ordered, collapse-ordered}
 use Rattle.lt_laws.proofs.NewDelta.{tests_hold}
 use Rattle.lt_laws.proofs.ReadLaws.{all_tests}

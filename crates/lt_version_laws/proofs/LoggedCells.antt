@@ -1,5 +1,5 @@
 -- What a change sets, in cells under its own version's layout: they are lawful there, and go over to the carriers.
-use Rattle.std.proofs.Common.{Bool, List, [], ap, ap₂, cond, eq-eqb, eqb-true, false, refl, subst, sym, true, ℕ, ℤ, ◌∙◌, ◌∷◌, ◌≡◌}
+use Rattle.std.proofs.Common.{Bool, List, [], ap, ap₂, cond, eq-eqb, eqb-true, false, refl, subst, sym, true, ℕ, ◌∙◌, ◌∷◌, ◌≡◌}
 use Rattle.std.specs.Prelude.{Contains, IsTrue, None, Option, Some, find, map, not, option_and_then, option_map, ◌&&◌, ◌==◌}
 use Rattle.std.specs.List.{AllByRecursion}
 use Rattle.std.specs.Option.{option_map_or}
@@ -12,22 +12,23 @@ use Rattle.lt_terms.specs.Layout.{Cell, Leaf, bool_cell, cell_of, cell_to, coerc
 use Rattle.lt_machine.specs.Laws.{lies_within}
 use Rattle.lt_tables.specs.Schema.{Column, Registered, Table, clash, column_numbered, registered}
 use Rattle.lt_laws.proofs.CarrierLaws.{clash_at, shape_within}
-use Rattle.lt_laws.proofs.CoerceLaws.{Cells, beside, cell_as, cell_for, cell_set, found_beside, map_same, sets_at, unset_to, with_own}
+use Rattle.lt_laws.proofs.CoerceLaws.{Cells, beside, cell_as, cell_for, cell_set, found_beside, map_same, sets_at, with_own}
 use Rattle.lt_lemmas.proofs.ConversionLemmas.{is_rising}
 use Rattle.lt_laws.proofs.FlattenLemmas.{cell_back}
 use Rattle.lt_laws.proofs.LeafLaws.{AreColumns, IsMarked, Mark, all_marked, found_leaf, leaf_at, leaf_found, leaf_in, leaf_in_layout, leaf_is, leaf_of, mark_of}
-use Rattle.lt_codecs.proofs.ListFacts.{all_map}
+use Rattle.lt_codecs.proofs.ListFacts.{all_map, all_to_map}
 use Rattle.lt_lemmas.proofs.ListFacts.{find_held}
-use Rattle.lt_laws.proofs.ListFacts.{all_at, all_to_map, in_map}
+use Rattle.lt_laws.proofs.ListFacts.{all_at, in_map}
 use Rattle.lt_laws.proofs.ReadLaws.{shape_at}
 use Rattle.lt_laws.proofs.ScanLaws.{any_of}
 use Rattle.lt_laws.proofs.ScanLemmas.{at_carrier, kind_for, leaf_cell-set, setting-map}
 use Rattle.lt_laws.proofs.SeenLaws.{AreLaid, laid_agrees, suits_plain}
-use Rattle.lt_laws.proofs.TableGrowth.{LeafOf, are_columns, cell_in, cell_none, cols, leaf_in_cols, none_set, set_at, setting_held}
+use Rattle.lt_laws.proofs.TableGrowth.{LeafOf, are_columns, cell_in, cols, leaf_in_cols, set_at, setting_held, unset_by}
 use Rattle.lt_lemmas.proofs.TableLaws.{FineColumns, IsFineKind, IsFineTable}
 use Rattle.lt_laws.proofs.TableLaws.{carrier_takes}
 use Rattle.lt_laws.proofs.WidenLaws.{along, bool_to, cell_lacks, lies_along, lies_shape, next_kind, presence_bool}
 use Rattle.lt_terms.specs.declared.Rank.TheVariants as rank
+use Rattle.lt_laws.proofs.ConversionLemmas.{shape_of_number}
 
 -- ---- a value of a kind's shape, along a path
 
@@ -51,18 +52,10 @@ field_shaped n (text_value t) ks k e h = absurd (false≢true h)
 field_shaped n (bytes_value t) ks k e h = absurd (false≢true h)
 field_shaped n (struct_value fs) ks k e h = fields_shaped n fs ks k e h
 
-number_shaped : (v : Value) (names : List (ℤ × List ℕ)) → IsTrue (has_shape v (enumeration names)) → IsTrue (has_shape v (plain rank.Int32))
-number_shaped null_value names h = refl
-number_shaped (bool_value b) names h = absurd (false≢true h)
-number_shaped (int_value z) names h = h
-number_shaped (text_value t) names h = absurd (false≢true h)
-number_shaped (bytes_value t) names h = absurd (false≢true h)
-number_shaped (struct_value fs) names h = absurd (false≢true h)
-
 -- at a leaf that is no presence leaf stands a value of the leaf's rank
 shape_along : (q : List ℕ) (k : Kind) (m : Mark) (v : Value) → leaf_of k q ≡ Some m → m.1 ≡ false → IsTrue (has_shape v k) → IsTrue (has_shape (value_along q v) (plain m.0))
 shape_along [] (plain r) m v e p h = let d : (r, false) ≡ m = cc in subst (λ (x : Mark). IsTrue (has_shape v (plain x.0))) d h
-shape_along [] (enumeration names) m v e p h = let d : (rank.Int32, false) ≡ m = cc in subst (λ (x : Mark). IsTrue (has_shape v (plain x.0))) d (number_shaped v names h)
+shape_along [] (enumeration names) m v e p h = let d : (rank.Int32, false) ≡ m = cc in subst (λ (x : Mark). IsTrue (has_shape v (plain x.0))) d (shape_of_number v names h)
 shape_along [] (structured ks) m v e p h = let d : (rank.Bool, true) ≡ m = cc in absurd (false≢true (sym p ∙ ap (λ (x : Mark). x.1) (sym d)))
 shape_along (n ∷ q) (plain r) m v e p h = cc
 shape_along (n ∷ q) (enumeration names) m v e p h = cc
@@ -175,11 +168,6 @@ logged_laid r set f a = let marks = all_marked (columns_of r) (version_columns_a
 }
 
 -- ---- at the carriers
-
-unset_by : (set : List (ℕ × Value)) (ls : List Leaf) (b : Leaf) (o : Option Leaf) → find (λ l. same_leaf l b) ls ≡ o → setting b.column set ≡ None
-    → option_map_or (λ (c : Leaf × Cell). cell_to c.0.rank b.rank c.1) (option_map (λ l. (l, cell_in set l)) o) (lacking b (beside (cell_in set) ls)) ≡ unset
-unset_by set ls b (Some a) f e = ap (cell_to a.rank b.rank) (cell_none set b.column a e (leaf_is a b (find_held (λ l. same_leaf l b) ls a f).1).0) ∙ unset_to a.rank b.rank
-unset_by set ls b None f e = ap (λ (t : Bool). cond t (cond b.presence (bool_cell false) null_cell) unset) (none_set set b.column ls e)
 
 column_is_set : (r : Registered) (set : List (ℕ × Value)) (n : ℕ) (c : Column) (v : Value) → column_numbered r.columns n ≡ Some c → setting n set ≡ Some v → sets n (beside (cell_in set) (layout_of (columns_of r))) ≡ true
 column_is_set r set n c v e s =

@@ -1,18 +1,17 @@
 -- A logged change is a lawful version, reads back, and is at the carriers what it is seen as.
 use Rattle.std.proofs.Common.{Bool, List, [], suc, zero, ap, ap₂, append-nil, arith, cond, eq-eqb, eqb-true, ne_eqb, false, le-leb, length, ltb-true, ltb-false, refl, subst, sym, true, ℕ, ◌<◌, ◌≤◌, ◌∙◌, ◌∷◌, ◌≡◌}
-use Rattle.std.specs.Prelude.{IsTrue, None, Option, Some, find, flat_map, map, nat_le, nat_lt, not, option_and_then, option_map, slice_get, ◌&&◌, ◌==◌, ◌||◌}
+use Rattle.std.specs.Prelude.{IsTrue, None, Option, Some, find, map, nat_le, nat_lt, not, option_and_then, option_map, slice_get, ◌&&◌, ◌==◌, ◌||◌}
 use Rattle.std.specs.List.{AllByRecursion, list_all}
 use Rattle.std.specs.Option.{option_map_or}
 use Rattle.std.proofs.lemmas.Bool.{and_from, and_parts, false≢true}
-use Rattle.std.proofs.lemmas.List.{length-append}
 use Rattle.lt_terms.specs.declared.KeyKind.{KeyKind}
 use Rattle.lt_terms.specs.declared.Op.{Op}
 use Rattle.lt_terms.specs.Value.{Value, is_timestamp, rises_above}
 use Rattle.lt_terms.specs.Kind.{Kind, has_shape, nesting}
-use Rattle.lt_terms.specs.Key.{KeyPart, is_key_of, key_bytes, max_key, part_bytes}
+use Rattle.lt_terms.specs.Key.{KeyPart, is_key_of, key_bytes, max_key}
 use Rattle.lt_machine.specs.Laws.{are_settings}
 use Rattle.lt_terms.specs.Layout.{Cell, Leaf, are_lawful, coerce, flatten, is_unset, layout_of, setting, unflatten}
-use Rattle.lt_terms.specs.Log.{Change, change_key, u32, is_change}
+use Rattle.lt_terms.specs.Log.{Change, change_key, is_change}
 use Rattle.lt_tables.specs.Fair.{has_change_shape}
 use Rattle.lt_tables.specs.Pump.{is_deliverable}
 use Rattle.lt_tables.specs.Schema.{Became, Catalogue, Column, IsCatalogue, KeyColumn, Registered, Table, carriers, key_kinds, registered, sets_shape, table_numbered, version_layout}
@@ -21,11 +20,10 @@ use Rattle.lt_codecs.proofs.KeyLaws.{keys_prefix_free}
 use Rattle.lt_laws.proofs.CatalogueLaws.{became_lawful, became_stays}
 use Rattle.lt_lemmas.proofs.ConversionLemmas.{is_rising}
 use Rattle.lt_laws.proofs.FlattenLemmas.{flattens_back-columns}
-use Rattle.lt_codecs.proofs.ListFacts.{all_map}
-use Rattle.lt_laws.proofs.ListFacts.{all_to_map}
+use Rattle.lt_codecs.proofs.ListFacts.{all_map, all_to_map}
 use Rattle.lt_laws.proofs.NewDelta.{tests_hold}
 use Rattle.lt_laws.proofs.ReadLaws.{all_tests, set_shapes, shape_at}
-use Rattle.lt_laws.proofs.SeenLaws.{laid_lawful, unset_all}
+use Rattle.lt_laws.proofs.SeenLaws.{laid_lawful, long_key, none_long, unset_all}
 use Rattle.lt_laws.proofs.TableGrowth.{cell_in, cols, set_at}
 use Rattle.lt_lemmas.proofs.TableLaws.{FineColumns, IsFineKind, fine_table}
 use Rattle.lt_codecs.proofs.LogTests.{change_fits}
@@ -105,20 +103,10 @@ module _ (cat : Catalogue) (c : Change) (is : IsCatalogue cat) (x : IsOfVersion 
 
 -- ---- lawful versions
 
-four : (n : ℕ) → length (u32 n) ≡ 4
-four n = refl
-
-long_key : (c : Change) → 4 ≤ length (change_key c)
-long_key c = let l = length-append (u32 c.table) (flat_map part_bytes c.key) in let f = four c.table in omega (arith, l, f)
-
-no_items : {A : Type 0} (xs : List A) → length xs ≡ 0 → xs ≡ []
-no_items [] e = refl
-no_items (x ∷ xs) e = absurd (omega (arith, e))
-
 none_deleted : (o : Op) (columns : List Column) (ls : List Leaf) (set : List (ℕ × Value)) → IsTrue (sets_shape o columns set) → (not (is_delete o) || list_all is_unset (flatten ls set)) ≡ true
 none_deleted ops.Insert columns ls set h = refl
 none_deleted ops.Update columns ls set h = refl
-none_deleted ops.Delete columns ls set h = subst (λ (s : List (ℕ × Value)). IsTrue (list_all is_unset (flatten ls s))) (sym (no_items set (eqb-true (length set) 0 h))) (unset_all ls)
+none_deleted ops.Delete columns ls set h = subst (λ (s : List (ℕ × Value)). IsTrue (list_all is_unset (flatten ls s))) (sym (none_long set (eqb-true (length set) 0 h))) (unset_all ls)
 
 pub logged_lawful : (cat : Catalogue) (c : Change) → IsCatalogue cat → IsTrue (is_deliverable cat c) → IsTrue (is_version (logged_layout cat c.table c.version) (logged cat c))
 logged_lawful cat c is h =
@@ -250,7 +238,7 @@ seen_is_lawful cat c is h =
     none_deleted_at : (o : Op) (columns : List Column) (ls : List Leaf) (f : ℕ × Value → ℕ × Value) (set : List (ℕ × Value)) → IsTrue (sets_shape o columns set) → (not (is_delete o) || list_all is_unset (flatten ls (map f set))) ≡ true
     none_deleted_at ops.Insert columns ls f set h = refl
     none_deleted_at ops.Update columns ls f set h = refl
-    none_deleted_at ops.Delete columns ls f set h = subst (λ (s : List (ℕ × Value)). IsTrue (list_all is_unset (flatten ls (map f s)))) (sym (no_items set (eqb-true (length set) 0 h))) (unset_all ls)
+    none_deleted_at ops.Delete columns ls f set h = subst (λ (s : List (ℕ × Value)). IsTrue (list_all is_unset (flatten ls (map f s)))) (sym (none_long set (eqb-true (length set) 0 h))) (unset_all ls)
 
 pub logged_laws : LoggedLaws
 logged_laws = record { lawful = logged_lawful; back = logged_back; one = logged_one; stays = logged_stays; seen = logged_seen }

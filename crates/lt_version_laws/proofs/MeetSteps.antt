@@ -9,21 +9,18 @@ use Rattle.lt_storage.specs.Store.{BundleEntry, entries_rise, entry_meets}
 use Rattle.lt_lemmas.proofs.ClipLaws.{below-upto, key-trans}
 use Rattle.lt_codecs.proofs.ListFacts.{all_both, all_map}
 use Rattle.lt_version_laws.specs.Meets.{AreEntries, MeetSteps}
-use Rattle.lt_version_laws.proofs.MomentSteps.{and_no}
 use Rattle.lt_version_laws.proofs.WindowLaws.{low_below}
+use Rattle.lt_lemmas.proofs.SoundLaws.{not-true}
+use Rattle.lt_laws.proofs.ClipLaws.{and-false}
 
 -- ---- keys of entries
-
-no : (b : Bool) → not b ≡ true → b ≡ false
-no true h = sym h
-no false h = refl
 
 rest_of : (e : BundleEntry) (es : List BundleEntry) → AreEntries (e ∷ es) → AreEntries es
 rest_of e [] a = record { rise = refl; each = refl }
 rest_of e (f ∷ es) a = record { rise = (and_parts (below e.last f.first) (entries_rise (f ∷ es)) a.rise).1; each = (and_parts (not (below e.last e.first)) (list_all (λ e. not (below e.last e.first)) (f ∷ es)) a.each).1 }
 
 own_order : (e : BundleEntry) (es : List BundleEntry) → AreEntries (e ∷ es) → below e.last e.first ≡ false
-own_order e es a = no (below e.last e.first) (and_parts (not (below e.last e.first)) (list_all (λ e. not (below e.last e.first)) es) a.each).0
+own_order e es a = not-true (below e.last e.first) (and_parts (not (below e.last e.first)) (list_all (λ e. not (below e.last e.first)) es) a.each).0
 
 -- an entry ends below where each behind it begins
 behind : (e : BundleEntry) (es : List BundleEntry) → AreEntries (e ∷ es) → AllByRecursion (λ (f : BundleEntry). below e.last f.first ≡ true) es
@@ -41,7 +38,7 @@ module _ {X : Type 0} (p : X → Bool) where
   at_index P (x ∷ xs) zero d a l = a.0
   at_index P (x ∷ xs) (suc j) d a l = at_index P xs j d a.1 (omega (arith, l))
 
-  -- no item that passes comes after one that fails
+  -- not-true item that passes comes after one that fails
   Falls : List X → Type 0
   Falls [] = ⊤
   Falls (x ∷ xs) = AllByRecursion (λ y. p y ≡ true → p x ≡ true) xs × Falls xs
@@ -139,10 +136,10 @@ falls_begins high (e ∷ es) a = (
 )
 
 ended : (r : Range) (e : BundleEntry) → below e.last r.low ≡ true → entry_meets r e ≡ false
-ended r e h = ap (λ (x : Bool). x && is_below_high e.first r.high) (and_no (not (is_empty_range r)) (not (below e.last r.low)) (ap not h))
+ended r e h = ap (λ (x : Bool). x && is_below_high e.first r.high) (and-false (not (is_empty_range r)) (not (below e.last r.low)) (ap not h))
 
 not_begun : (r : Range) (e : BundleEntry) → is_below_high e.first r.high ≡ false → entry_meets r e ≡ false
-not_begun r e h = and_no (not (is_empty_range r) && not (below e.last r.low)) (is_below_high e.first r.high) h
+not_begun r e h = and-false (not (is_empty_range r) && not (below e.last r.low)) (is_below_high e.first r.high) h
 
 meets_so : (r : Range) (e : BundleEntry) → is_empty_range r ≡ false → below e.last r.low ≡ false → is_below_high e.first r.high ≡ true → entry_meets r e ≡ true
 meets_so r e n h i = ap₂ (λ (x y : Bool). not x && not y && is_below_high e.first r.high) n h ∙ i
