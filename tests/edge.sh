@@ -185,11 +185,13 @@ else
   (cd "$folder" && "$P" run < "$room/one_line" > "$room/second") || say "a store does not open after the process that had it ended"
 fi
 
-# A script that gives nothing for now, and an output that takes nothing for now.
+# A script that gives nothing for now, and an output that takes nothing for now; and a scan of many rows.
 if python=$(command -v python3); then
   fresh
   (cd "$folder" && "$python" "$root/tests/edge_blocks.py" "$P") || status=1
+  fresh
+  (cd "$folder" && rm feed.0 && PYTHONDONTWRITEBYTECODE=1 "$python" "$root/tests/edge_scan.py" "$P") || status=1
 else
-  say "no python3: inputs and outputs that would block are not tried"
+  say "no python3: inputs and outputs that would block are not tried, nor a scan of many rows"
 fi
 exit $status
