@@ -13,3 +13,4 @@ pub mod Preparing
 pub mod Replacing
 pub mod First
 pub mod Leading
+pub mod Keeping

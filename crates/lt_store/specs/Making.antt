@@ -38,11 +38,11 @@ pub record HasMade (limit : ℕ) (hs : List Header) (image : List ℕ) : Type 0 
   pub fresh : HasFresh limit hs image
   pub root : HasRoot (first_root 1024 (fresh_length limit hs)) image
 
--- Why no store is made. A fault of the disk has its cause in the disk's count, and out of memory is always allowed.
+-- Why a disk is not vacant. A fault of the disk has its cause in the disk's count.
 abbrev pub RefusesMaking : Option (List ℕ) → MakeRefusal → Type 0
 RefusesMaking told refusals.StoreThere = IfSome told (λ image. HasNoStore image → ⊥)
 RefusesMaking told refusals.Disk = ⊤
-RefusesMaking told refusals.Memory = ⊤
+RefusesMaking told refusals.Memory = ⊥
 
 -- an answer as that of a call of the disk: only a fault of the disk is an error there
 abbrev pub of_disk : {A : Type 0} → Result A MakeRefusal → Result (Unit {0}) (Unit {0})

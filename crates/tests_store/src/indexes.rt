@@ -13,7 +13,7 @@ use std::alloc::Global;
 use std::test::Fail;
 
 /// One table with two leaves, and one bundle of 76 bytes at place 1,178.
-const ONE: &[u8] = b"\
+pub const ONE: &[u8] = b"\
     LTI1\0\0\0\x01\0\0\0\x01\0\0\0\x02\0\x01\0\x03\0\0\x02\0\x04\0\0\0\0\0\0\0\0\x01\0\0\0\0\0\0\x04\
     \x9a\0\0\0\0\0\0\0L\0\0\0\0\0\0\0\x01\0\x0c\0\0\0\x01\x80\0\0\0\0\0\0\x01\0\x0c\0\0\0\x01\x80\0\
     \0\0\0\0\0\x01\0\0\0\0\0\0\0\x05\0\0\0\0\0\0\0\x05";

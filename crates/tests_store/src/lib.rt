@@ -1,6 +1,8 @@
-//! The tests of the store's parts: they show what no clause says.
+//! The tests of the store: they show what no clause says.
 #![tactic(auto)]
 
+#[cfg(test)]
+mod damages;
 #[cfg(test)]
 mod indexes;
 #[cfg(test)]
@@ -9,3 +11,5 @@ mod manifests;
 mod roots;
 #[cfg(test)]
 mod space;
+#[cfg(test)]
+mod stores;

@@ -6,13 +6,13 @@ use std::alloc::Global;
 use std::test::Fail;
 
 /// A fresh store of one stream, with the limit 1,048,576.
-const FRESH: &[u8] = b"\
+pub const FRESH: &[u8] = b"\
     LTM1\0\0\0\0\0\x10\0\0\0\0\0\0\0\0\0\0\0\0\0\0\0\0\0\0\0\0\0\0\0\0\0\x01\0\0\0\0\0\0\x01\0\0\0\0\
     \0\0\0\0\0\0\0\0\0\0\0\0\0\0";
 
 /// Two tables with a retired version, an enum, nested structs and defaults; two streams, one with a point; two partitions that
 /// share a delta.
-const FULL: &[u8] = b"\
+pub const FULL: &[u8] = b"\
     LTM1\0\0\x01\0\0\0\0\0\0\0\0\0\0\0\0\x03\0\0\0\0\0\0\0\x03\0\0\0\x02\0\0\0\x01\0\x01t\x01\0\x02i\
     d\x01\0\x02\0\0\x01\0\x01\0\x01a\x03\0\x01\0\x03\0\x01\0\x01a\x04\0\0\x02\0\x01s\x06\0\x02\0\0\0\
     \0\0\x03new\0\0\0\x07\0\x04paid\x01\x02\0\0\0\0\0\0\0\x07\0\x05\0\x01z\x07\0\x02\0\x01\0\x01w\
