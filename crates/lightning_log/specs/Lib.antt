@@ -1,0 +1,4 @@
+pub mod Front
+pub mod Program
+pub mod Writing
+pub mod Reading
