@@ -172,11 +172,9 @@ module _ {D : Type 0} (v : Device D) (old new : D) (root : Root) (place len : �
         broken_after v f s l made old new c.stands s' l' made' seen c.prepared c.apart own_images slots (λ image left. subst (λ r. StaysOutside (slot_place (1 - r.slot)) 512 seen image) (sym c.from) (outside image left))
         (λ image left. subst (λ r. HasRoot l.root image ⊎ HasRoot r image) (sym c.to) (subst (λ r. HasRoot r image ⊎ HasRoot (next_root root place len) image) (sym c.from) (counts image left)))
 
-    -- one of the two, by what the commit's clauses say
-    pub broken_either : LeftOnly (v.state old) (v.state new) (OneOf seen) → LeavesNow (v.state new) (HasRoot root) ⊎ LeavesNow (v.state new) (StaysOutside (slot_place (1 - root.slot)) 512 seen)
-        → LeavesNow (v.state new) (IsHonest f (placed_at (broken_by s' s) l made)) ⊎ LeavesNow (v.state new) (IsHonest f (broken_at s' s l l' made))
-    broken_either moments (inl still) = inl (broken_unplaced still)
-    broken_either moments (inr outside) = inr (broken_placed outside (λ image left. one_root image (holds_now v old new (OneOf seen) moments image left)))
+    -- where each image has all that read before, by what the commit's clauses say
+    pub broken_whole : LeftOnly (v.state old) (v.state new) (OneOf seen) → LeavesNow (v.state new) (StaysOutside (slot_place (1 - root.slot)) 512 seen) → LeavesNow (v.state new) (IsHonest f (broken_at s' s l l' made))
+    broken_whole moments outside = broken_placed outside (λ image left. one_root image (holds_now v old new (OneOf seen) moments image left))
       where
         one_root : (image : List ℕ) → OneOf seen image → HasRoot root image ⊎ HasRoot (next_root root place len) image
         one_root image (inl former) = inl former

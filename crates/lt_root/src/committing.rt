@@ -2,12 +2,12 @@
 //! written. It makes at most eight calls of the disk.
 
 ghost use Rattle.std.specs.Prelude.{◌≡◌, ◌+◌, ◌-◌, ◌<◌, ◌≤◌, ◌^◌, ◌⊎◌, IfErr, IfSome, OnOk, OnErr};
-ghost use Rattle.lt_world.specs.Disk.{CountsOne, DiskGoes, HasCause, LeftOnly, Rose, StaysOutside};
+ghost use Rattle.lt_world.specs.Disk.{CountsOne, DiskGoes, HasCause, LeftOnly, Rose};
 ghost use Rattle.lt_world.specs.Slots.{HasRoot};
 ghost use Rattle.lt_world.specs.Disk.{LeavesNow};
 ghost use Rattle.lt_world.specs.Slots.{slot_place};
 ghost use Rattle.lt_root.specs.Roots.{next_root};
-ghost use Rattle.lt_root.specs.Steps.{HasCommitted, of_write};
+ghost use Rattle.lt_root.specs.Steps.{HasCommitted, KeepsOthers, KeepsRoot, of_write};
 ghost use Rattle.lt_root.specs.declared.refusal.CommitFault.TheVariants as faults;
 ghost use Rattle.lt_disk.specs.Within.{IsStable, IsWithin, ReadsWithin};
 
@@ -42,11 +42,9 @@ pub fn try_commit<D: Disk>(
     ensures unwritten { IfSome (D.state disk.old).told (λ seen. 1024 ≤ place → 0 < length
         → LeavesNow (D.state disk.old) (HasRoot root.old)
         → IfErr result (λ e. e ≡ faults.Read → LeavesNow (D.state disk.new) (HasRoot root.old))) }
-    // After any fault the old one counts in each image, or each has all that read before but in the other slot.
-    ensures torn { IfSome (D.state disk.old).told (λ seen. 1024 ≤ place → 0 < length
-        → LeavesNow (D.state disk.old) (HasRoot root.old)
-        → OnErr result (LeavesNow (D.state disk.new) (HasRoot root.old)
-        ⊎ LeavesNow (D.state disk.new) (StaysOutside (slot_place (1 - root.old.slot)) 512 seen))) }
+    // After any fault, whatever the images were before: the old one still counts in each, or each has all that read before but in the other slot.
+    ensures torn { OnErr result (KeepsRoot (D.state disk.old) (D.state disk.new) root.old place length
+        ⊎ KeepsOthers (D.state disk.old) (D.state disk.new) root.old place length) }
 
     // Nothing but the other slot changes, in what reads and in each image, and after Ok a crash leaves what reads.
     ensures others { ReadsWithin (slot_place (1 - root.old.slot)) 512 (D.state disk.old) (D.state disk.new) }
@@ -98,11 +96,9 @@ pub fn commit<D: Disk>(
         → LeavesNow (D.state disk.old) (HasRoot root.old)
         → OnErr result (Rose (D.state disk.old).write_faults (D.state disk.new).write_faults
         ⊎ LeavesNow (D.state disk.new) (HasRoot root.old))) }
-    // After any fault the old one counts in each image, or each has all that read before but in the other slot.
-    ensures torn { IfSome (D.state disk.old).told (λ seen. 1024 ≤ place → 0 < length
-        → LeavesNow (D.state disk.old) (HasRoot root.old)
-        → OnErr result (LeavesNow (D.state disk.new) (HasRoot root.old)
-        ⊎ LeavesNow (D.state disk.new) (StaysOutside (slot_place (1 - root.old.slot)) 512 seen))) }
+    // After any fault, whatever the images were before: the old one still counts in each, or each has all that read before but in the other slot.
+    ensures torn { OnErr result (KeepsRoot (D.state disk.old) (D.state disk.new) root.old place length
+        ⊎ KeepsOthers (D.state disk.old) (D.state disk.new) root.old place length) }
 
     // Nothing but the other slot changes, in what reads and in each image, and after Ok a crash leaves what reads.
     ensures others { ReadsWithin (slot_place (1 - root.old.slot)) 512 (D.state disk.old) (D.state disk.new) }

@@ -201,9 +201,9 @@ returns-in_err-sync-clause-torn g c =
     let old = c.args.disk.now in
     let r = c.args.root.now in
     let n = next_root r c.args.place c.args.length in
-    where_told (v.state old).told _ (λ seen is_seen behind some has.
+    at_err c.from_residual.result (inl (where_told (v.state old).told _ (λ seen is_seen behind some has.
     let next = next_is r c.args.place c.args.length c.requires.slot c.requires.generation behind (omega (arith, c.ranges.place.fits)) some (omega (arith, c.ranges.length.fits)) in
-    at_err c.from_residual.result (inl (holds_now v old c.sync.new.self (HasRoot r) (sync_run v r n next old c.sync.new.self has c.sync.ensures.called.time c.sync.ensures.crash))))
+    holds_now v old c.sync.new.self (HasRoot r) (sync_run v r n next old c.sync.new.self has c.sync.ensures.called.time c.sync.ensures.crash))))
 
 pub returns-in_err-close_gate-clause-torn : goal.returns-in_err-close_gate-clause-torn
 returns-in_err-close_gate-clause-torn g c =
@@ -211,10 +211,10 @@ returns-in_err-close_gate-clause-torn g c =
     let old = c.args.disk.now in
     let r = c.args.root.now in
     let n = next_root r c.args.place c.args.length in
-    where_told (v.state old).told _ (λ seen is_seen behind some has.
+    at_err c.from_residual-in_err-close_gate.result (inl (where_told (v.state old).told _ (λ seen is_seen behind some has.
     let next = next_is r c.args.place c.args.length c.requires.slot c.requires.generation behind (omega (arith, c.ranges.place.fits)) some (omega (arith, c.ranges.length.fits)) in
     let at_sync = reaches_synced v r n next old c.sync.new.self seen is_seen c.sync.ensures.same (sync_run v r n next old c.sync.new.self has c.sync.ensures.called.time c.sync.ensures.crash) c.in_ok-sync.ensures.durable in
-    at_err c.from_residual-in_err-close_gate.result (inl (holds_now v old c.close_gate.new.disk (HasRoot r) (closing_run v r n next old c.sync.new.self c.close_gate.new.disk at_sync c.close_gate.ensures.images))))
+    holds_now v old c.close_gate.new.disk (HasRoot r) (closing_run v r n next old c.sync.new.self c.close_gate.new.disk at_sync c.close_gate.ensures.images))))
 
 pub returns-in_err-put-clause-torn : goal.returns-in_err-put-clause-torn
 returns-in_err-put-clause-torn g c =
@@ -222,11 +222,11 @@ returns-in_err-put-clause-torn g c =
     let old = c.args.disk.now in
     let r = c.args.root.now in
     let n = next_root r c.args.place c.args.length in
-    where_told (v.state old).told _ (λ seen is_seen behind some has.
+    at_err c.from_residual-in_err-put.result (inl (where_told (v.state old).told _ (λ seen is_seen behind some has.
     let next = next_is r c.args.place c.args.length c.requires.slot c.requires.generation behind (omega (arith, c.ranges.place.fits)) some (omega (arith, c.ranges.length.fits)) in
     let at_sync = reaches_synced v r n next old c.sync.new.self seen is_seen c.sync.ensures.same (sync_run v r n next old c.sync.new.self has c.sync.ensures.called.time c.sync.ensures.crash) c.in_ok-sync.ensures.durable in
     let at_closed = reaches_closed v r n next old c.sync.new.self c.close_gate.new.disk at_sync c.close_gate.ensures.images c.close_gate.ensures.reads (c.in_ok-close_gate.ensures.stable c.in_ok-sync.ensures.durable) c.in_ok-close_gate.ensures.closed in
-    at_err c.from_residual-in_err-put.result (inl (holds_now v old c.put.new.disk (HasRoot r) (body_run v r n next old c.close_gate.new.disk c.put.new.disk c.place_of_slot.result c.body.result c.place_of_slot.ensures c.body.ensures at_closed c.put.ensures.images))))
+    holds_now v old c.put.new.disk (HasRoot r) (body_run v r n next old c.close_gate.new.disk c.put.new.disk c.place_of_slot.result c.body.result c.place_of_slot.ensures c.body.ensures at_closed c.put.ensures.images))))
 
 pub returns-in_err-put-2-clause-torn : goal.returns-in_err-put-2-clause-torn
 returns-in_err-put-2-clause-torn g c =
@@ -238,9 +238,9 @@ returns-in_err-put-2-clause-torn g c =
     let synced = unchanged v (slot_place slot) 512 old c.sync.new.self c.sync.ensures.called.time c.sync.ensures.crash c.sync.ensures.same in
     let closed = changes_on v (slot_place slot) 512 old c.sync.new.self c.close_gate.new.disk synced (closing_changes v slot c.sync.new.self c.close_gate.new.disk c.close_gate.ensures.images c.close_gate.ensures.reads) in
     let written = changes_on v (slot_place slot) 512 old c.close_gate.new.disk c.put.new.disk closed (changed v (slot_place slot) 512 c.place_of_slot.result (length c.body.result) c.close_gate.new.disk c.put.new.disk (omega (arith, c.place_of_slot.ensures)) (omega (arith, c.place_of_slot.ensures, ap length c.body.ensures)) c.put.ensures.images c.put.ensures.reads) in
-    where_told (v.state old).told _ (λ seen is_seen behind some has.
+    at_err c.from_residual-in_err-put-2.result (inr (where_told (v.state old).told _ (λ seen is_seen behind some has.
     let next = next_is r c.args.place c.args.length c.requires.slot c.requires.generation behind (omega (arith, c.ranges.place.fits)) some (omega (arith, c.ranges.length.fits)) in
     let at_sync = reaches_synced v r n next old c.sync.new.self seen is_seen c.sync.ensures.same (sync_run v r n next old c.sync.new.self has c.sync.ensures.called.time c.sync.ensures.crash) c.in_ok-sync.ensures.durable in
     let at_closed = reaches_closed v r n next old c.sync.new.self c.close_gate.new.disk at_sync c.close_gate.ensures.images c.close_gate.ensures.reads (c.in_ok-close_gate.ensures.stable c.in_ok-sync.ensures.durable) c.in_ok-close_gate.ensures.closed in
     let at_ready = reaches_ready v r n next old c.close_gate.new.disk c.put.new.disk c.place_of_slot.result c.body.result c.place_of_slot.ensures c.body.ensures at_closed c.put.ensures.images c.in_ok-put.ensures.bytes c.in_ok-put.ensures.stable in
-    at_err c.from_residual-in_err-put-2.result (inr (gate_torn v r n next old c.put.new.disk c.put-2.new.disk c.place_of_gate.result seen c.place_of_gate.ensures is_seen written.reads at_ready c.put-2.ensures.images)))
+    gate_torn v r n next old c.put.new.disk c.put-2.new.disk c.place_of_gate.result seen c.place_of_gate.ensures is_seen written.reads at_ready c.put-2.ensures.images)))
