@@ -1,5 +1,5 @@
 -- A store and its session over a commit.
-use Rattle.std.proofs.Common.{List, [], ap, arith, false, inl, length, refl, subst, sym, true, ℕ, ◌+◌, ◌++◌, ◌∙◌, ◌∷◌, ◌≡◌}
+use Rattle.std.proofs.Common.{Bool, List, [], ap, arith, false, inl, length, refl, subst, sym, true, ℕ, ◌+◌, ◌++◌, ◌∙◌, ◌∷◌, ◌≡◌}
 use Rattle.std.specs.Prelude.{Err, IsTrue, Ok}
 use Rattle.std.specs.List.Sorted.{IsPermutation}
 use Rattle.std.proofs.lemmas.Bool.{false≢true}
@@ -22,7 +22,7 @@ use Rattle.lt_image_laws.proofs.Apart.{apart_laws}
 use Rattle.lt_image_laws.proofs.Placed.{shelf_laws}
 use Rattle.lt_image_laws.proofs.Room.{room_laws}
 use Rattle.lt_image_laws.proofs.Standing.{honest_stays}
-use Rattle.lt_store.specs.Commits.{Going, HasCommitted, IsReady, IsWriting, Replaced, StaysStore, kept_behind, leaving_of, pieces_behind, pieces_of, placing_behind}
+use Rattle.lt_store.specs.Commits.{Going, HasCommitted, IsReady, IsWriting, LeadsTo, Replaced, Replaces, StaysStore, kept_behind, leaving_of, pieces_behind, pieces_of, placing_behind}
 use Rattle.lt_store.specs.Standing.{StandsAt}
 use Rattle.lt_store.specs.declared.committing.CommitRefusal.{CommitRefusal}
 use Rattle.lt_store.specs.declared.committing.CommitRefusal.TheVariants as refusals
@@ -61,9 +61,8 @@ module _ {D : Type 0} (v : Device D) (old : D) (store : Store) (m : Manifest) (l
       )
 
   -- nothing was written, and the store is as it was
-  pub nothing_done : (e : CommitRefusal) → store.broken ≡ false → HasCommitted (v.state old) (v.state old) store g (Err e)
+  nothing_done : (e : CommitRefusal) → store.broken ≡ false → HasCommitted (v.state old) (v.state old) store store.root false g (Err e)
   nothing_done e whole = record {
-    root = store.root;
     any_moment = begins v old (IsRootedOnEither g.feed g.before g.placing g.made g.after (placing_behind store.root g) g.made_after) (λ c left. inl (r.stands c left));
     acknowledged = tt;
     refused = λ _. (r.stands, r.at);
@@ -101,7 +100,7 @@ module _ {D : Type 0} (v : Device D) (old : D) (store : Store) (m : Manifest) (l
     apart_so xs p = subst (λ n. IsTrue (are_apart n xs)) (takes.taken.limit ∙ limit_is) (apart_permuted after.limit after.taken xs (IsPermutation-sym xs after.taken p) takes.apart)
 
     -- the manifest may be written to the gap that was taken
-    pub writing : bytes ≡ manifest_bytes m → IsWriting (v.state old) store.root e bytes g
+    writing : bytes ≡ manifest_bytes m → IsWriting (v.state old) store.root e bytes g
     writing spelled = record {
       tells = r.tells;
       stands = r.stands;
@@ -118,9 +117,6 @@ module _ {D : Type 0} (v : Device D) (old : D) (store : Store) (m : Manifest) (l
     }
 
     module _ (new : D) (s' : Store) where
-      abbrev next : Root
-      next = next_root store.root e.place e.length
-
       -- the former manifest's extent was given back, and what leaves
       module _ (given : Extents) (gives : Takes (root_extent store.root) given after) (final : (rest : List Extent) → IsPermutation (leaving ++ rest) given.taken → IsPermutation rest s'.space.taken) where
         left : IsPermutation (leaving ++ (extents_of (placing_behind (next_root store.root e.place e.length) g) ++ g.made_after)) given.taken
@@ -148,10 +144,9 @@ module _ {D : Type 0} (v : Device D) (old : D) (store : Store) (m : Manifest) (l
           taken = final (extents_of (placing_behind (next_root store.root e.place e.length) g) ++ g.made_after) left;
         }
 
-        pub done : Replaced (v.state old) (v.state new) (next_root store.root e.place e.length) g (Ok tt) → s'.root ≡ next_root store.root e.place e.length → s'.space.limit ≡ store.space.limit → s'.broken ≡ false
-            → HasCommitted (v.state old) (v.state new) s' g (Ok tt)
-        done rep root limit whole = record {
-          root = next_root store.root e.place e.length;
+        done : (placed : Bool) → Replaced (v.state old) (v.state new) (next_root store.root e.place e.length) placed g (Ok tt) → s'.root ≡ next_root store.root e.place e.length → s'.space.limit ≡ store.space.limit → s'.broken ≡ false
+            → HasCommitted (v.state old) (v.state new) s' (next_root store.root e.place e.length) placed g (Ok tt)
+        done placed rep root limit whole = record {
           any_moment = rep.any_moment;
           acknowledged = (rep.acknowledged, stands_after root limit);
           refused = tt;
@@ -159,9 +154,9 @@ module _ {D : Type 0} (v : Device D) (old : D) (store : Store) (m : Manifest) (l
         }
 
       -- a fault in a read
-      pub kept : Replaced (v.state old) (v.state new) (next_root store.root e.place e.length) g (Err faults.Read) → StaysStore store s' → store.broken ≡ false → HasCommitted (v.state old) (v.state new) s' g (Err refusals.Disk)
-      kept rep same_store whole = record {
-        root = next_root store.root e.place e.length;
+      kept : (placed : Bool) → Replaced (v.state old) (v.state new) (next_root store.root e.place e.length) placed g (Err faults.Read) → StaysStore store s' → store.broken ≡ false
+          → HasCommitted (v.state old) (v.state new) s' (next_root store.root e.place e.length) placed g (Err refusals.Disk)
+      kept placed rep same_store whole = record {
         any_moment = rep.any_moment;
         acknowledged = tt;
         refused = λ _. (
@@ -176,11 +171,50 @@ module _ {D : Type 0} (v : Device D) (old : D) (store : Store) (m : Manifest) (l
       }
 
       -- a fault in a write or a sync
-      pub broken : Replaced (v.state old) (v.state new) (next_root store.root e.place e.length) g (Err faults.Write) → s'.broken ≡ true → HasCommitted (v.state old) (v.state new) s' g (Err refusals.Disk)
-      broken rep is = record {
-        root = next_root store.root e.place e.length;
+      broken : (placed : Bool) → Replaced (v.state old) (v.state new) (next_root store.root e.place e.length) placed g (Err faults.Write) → s'.broken ≡ true
+          → HasCommitted (v.state old) (v.state new) s' (next_root store.root e.place e.length) placed g (Err refusals.Disk)
+      broken placed rep is = record {
         any_moment = rep.any_moment;
         acknowledged = tt;
         refused = λ whole. absurd (false≢true (sym whole ∙ is));
         broken = λ _. rep.broken;
       }
+
+-- for each session that stood on the images
+module _ {D : Type 0} (v : Device D) (old : D) (store : Store) (m : Manifest) (leaving : List Extent) where
+  pub leads_nowhere : (e : CommitRefusal) → store.broken ≡ false → LeadsTo (v.state old) (v.state old) store store m leaving (Err e)
+  leads_nowhere e whole = record {
+    root = store.root;
+    placed = false;
+    counts = tt;
+    each = λ g ready. nothing_done v old store m leaving g ready e whole;
+  }
+
+  module _ (after : Extents) (e : Extent) (bytes : List ℕ) (takes : TakesGap store.space after (length bytes) e) (spelled : bytes ≡ manifest_bytes m) (new : D) (s' : Store) where
+    pub leads_on : (given : Extents) → Takes (root_extent store.root) given after → ((rest : List Extent) → IsPermutation (leaving ++ rest) given.taken → IsPermutation rest s'.space.taken)
+        → Replaces (v.state old) (v.state new) store.root e bytes (Ok tt) → s'.root ≡ next_root store.root e.place e.length → s'.space.limit ≡ store.space.limit → s'.broken ≡ false → LeadsTo (v.state old) (v.state new) store s' m leaving (Ok tt)
+    leads_on given gives final rep root limit whole = record {
+      root = next_root store.root e.place e.length;
+      placed = rep.placed;
+      counts = root;
+      each = λ g ready.
+          done v old store m leaving g ready after e bytes takes new s' given gives final rep.placed (rep.each g (writing v old store m leaving g ready after e bytes takes spelled)) root limit whole;
+    }
+
+    pub leads_back : Replaces (v.state old) (v.state new) store.root e bytes (Err faults.Read) → StaysStore store s' → store.broken ≡ false → LeadsTo (v.state old) (v.state new) store s' m leaving (Err refusals.Disk)
+    leads_back rep same_store whole = record {
+      root = next_root store.root e.place e.length;
+      placed = rep.placed;
+      counts = tt;
+      each = λ g ready.
+          kept v old store m leaving g ready after e bytes takes new s' rep.placed (rep.each g (writing v old store m leaving g ready after e bytes takes spelled)) same_store whole;
+    }
+
+    pub leads_off : Replaces (v.state old) (v.state new) store.root e bytes (Err faults.Write) → s'.broken ≡ true → LeadsTo (v.state old) (v.state new) store s' m leaving (Err refusals.Disk)
+    leads_off rep is = record {
+      root = next_root store.root e.place e.length;
+      placed = rep.placed;
+      counts = tt;
+      each = λ g ready.
+          broken v old store m leaving g ready after e bytes takes new s' rep.placed (rep.each g (writing v old store m leaving g ready after e bytes takes spelled)) is;
+    }

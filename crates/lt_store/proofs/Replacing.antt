@@ -1,5 +1,5 @@
 -- How the images go on while a manifest is written to free space, and then made to count.
-use Rattle.std.proofs.Common.{List, None, Option, Some, ap, arith, inl, inr, length, refl, subst, sym, ℕ, [], ◌++◌, ◌+◌, ◌-◌, ◌<◌, ◌∙◌, ◌∷◌, ◌≡◌, ◌≤◌, ◌⊎◌}
+use Rattle.std.proofs.Common.{Bool, List, None, Option, Some, ap, arith, false, inl, inr, length, refl, subst, sym, true, ℕ, [], ◌++◌, ◌+◌, ◌-◌, ◌<◌, ◌∙◌, ◌∷◌, ◌≡◌, ◌≤◌, ◌⊎◌}
 use Rattle.std.specs.Prelude.{Contains, Err, IfErr, IsSome, IsTrue, Ok, OnErr, OnOk, Result, nat_le}
 use Rattle.std.proofs.lemmas.Bool.{and_parts, false≢true}
 use Rattle.std.proofs.lemmas.List.Sorted.{Contains-permutation, IsPermutation-sym}
@@ -12,7 +12,7 @@ use Rattle.lt_storage.specs.Store.{are_within, extents_of}
 use Rattle.lt_disk.specs.Within.{IsStable, IsWithin, ReadsWithin}
 use Rattle.lt_disk.proofs.Moments.{Device, holds_now, joined, told_at, weaker}
 use Rattle.lt_root.specs.Roots.{next_root}
-use Rattle.lt_root.specs.Steps.{HasCommitted}
+use Rattle.lt_root.specs.Steps.{HasCommitted, KeepsOthers, KeepsRoot}
 use Rattle.lt_root.specs.declared.refusal.CommitFault.{CommitFault}
 use Rattle.lt_root.specs.declared.refusal.CommitFault.TheVariants as faults
 use Rattle.lt_disk.proofs.Written.{stays_written}
@@ -23,9 +23,9 @@ use Rattle.lt_image_laws.specs.Standing.{IsRooted, live_of}
 use Rattle.lt_image_laws.proofs.Bytes.{bytes_stay}
 use Rattle.lt_image_laws.proofs.Commit.{commit_laws}
 use Rattle.lt_image_laws.proofs.Moves.{move_laws}
-use Rattle.lt_image_laws.proofs.OnDisk.{after_fault, after_ok, broken_either, either_stands, piece_in_gap}
+use Rattle.lt_image_laws.proofs.OnDisk.{after_fault, after_ok, broken_unplaced, broken_whole, either_stands, piece_in_gap}
 use Rattle.lt_image_laws.proofs.Standing.{honest_stays}
-use Rattle.lt_store.specs.Commits.{Going, HasPieces, IsWriting, Replaced, pieces_of, placing_behind}
+use Rattle.lt_store.specs.Commits.{Going, HasPieces, IsBroken, IsWriting, Replaced, pieces_of, placing_behind}
 use Rattle.lt_store.proofs.Preparing.{all_within, prepared_from, sealed_on}
 
 pub some_there : (o : Option (List ℕ)) → IsSome o → (image : List ℕ) × (o ≡ Some image)
@@ -54,6 +54,16 @@ on_err (Err e) p f = f p
 on_fault : {T E P Q : Type 0} (C : E → Type 0) (r : Result T E) → IfErr r (λ e. C e → P) → (P → Q) → IfErr r (λ e. C e → Q)
 on_fault C (Ok x) p f = tt
 on_fault C (Err e) p f = λ c. f (p c)
+
+-- one of two, as it is known by now
+abbrev Side : Type 0 → Type 0 → Bool → Type 0
+Side A B false = A
+Side A B true = B
+
+pub side_of : {T E A B : Type 0} (r : Result T E) → OnErr r (A ⊎ B) → (placed : Bool) × OnErr r (Side A B placed)
+side_of (Ok x) torn = (false, tt)
+side_of (Err e) (inl first) = (false, first)
+side_of (Err e) (inr second) = (true, second)
 
 within_rest : (image : List ℕ) (xs ys : List Extent) → IsTrue (are_within image (xs ++ ys)) → IsTrue (are_within image ys)
 within_rest image [] ys h = h
@@ -89,12 +99,12 @@ module _ {D : Type 0} (v : Device D) (old mid : D) (root : Root) (e : Extent) (b
   before_now = holds_now v old mid (IsRooted g.feed g.before g.placing g.made) before_stands
 
   -- the write failed
-  pub not_written : Replaced (v.state old) (v.state mid) (next_root root e.place e.length) g (Err faults.Write)
+  pub not_written : Replaced (v.state old) (v.state mid) (next_root root e.place e.length) false g (Err faults.Write)
   not_written = record {
     any_moment = weaker v old mid (IsRooted g.feed g.before g.placing g.made) Either before_stands (λ c is. inl is);
     acknowledged = tt;
     unwritten = no_read;
-    broken = inl (λ c left. move_laws.breaks g.feed g.before g.after g.placing g.made c (before_now c left));
+    broken = λ c left. move_laws.breaks g.feed g.before g.after g.placing g.made c (before_now c left);
   }
 
   module _ (seen : List ℕ) (was : (v.state old).told ≡ Some seen) (tells : (v.state mid).told ≡ Some (with_bytes seen e.place bytes)) where
@@ -143,10 +153,20 @@ module _ {D : Type 0} (v : Device D) (old mid : D) (root : Root) (e : Extent) (b
     module _ (new : D) (inside : LeftOnly (v.state mid) (v.state new) (IsWithin (v.state mid) (slot_place (1 - root.slot)) 512))
         (moments : LeftOnly (v.state mid) (v.state new) (λ c. HasRoot root c ⊎ HasCommitted (next_root root e.place e.length) (with_bytes seen e.place bytes) c))
         (result : Result (Unit {0}) CommitFault) where
-      pub replaced : OnOk result (LeavesNow (v.state new) (HasRoot (next_root root e.place e.length))) → IfErr result (λ x. x ≡ faults.Read → LeavesNow (v.state new) (HasRoot root))
-          → OnErr result (LeavesNow (v.state new) (HasRoot root) ⊎ LeavesNow (v.state new) (StaysOutside (slot_place (1 - root.slot)) 512 (with_bytes seen e.place bytes)))
-          → ReadsWithin (slot_place (1 - root.slot)) 512 (v.state mid) (v.state new) → OnOk result (IsStable (v.state new)) → Replaced (v.state old) (v.state new) (next_root root e.place e.length) g result
-      replaced acknowledged unwritten torn others stable = record {
+      -- after a fault, on either side
+      broken_so : (placed : Bool) → OnErr result (Side (KeepsRoot (v.state mid) (v.state new) root e.place e.length) (KeepsOthers (v.state mid) (v.state new) root e.place e.length) placed)
+          → OnErr result (IsBroken (v.state new) (next_root root e.place e.length) placed g)
+      broken_so false torn = on_err result torn (λ keeps.
+          broken_unplaced v mid new root e.place e.length inside g.feed g.before g.after g.placing (placing_behind (next_root root e.place e.length) g) g.made g.made_after (with_bytes seen e.place bytes) is_commit
+          (told_at (v.state mid).told (with_bytes seen e.place bytes) _ tells keeps may_commit.0 may_commit.1 may_commit.2))
+      broken_so true torn = on_err result torn (λ keeps.
+          broken_whole v mid new root e.place e.length inside g.feed g.before g.after g.placing (placing_behind (next_root root e.place e.length) g) g.made g.made_after (with_bytes seen e.place bytes) is_commit moments
+          (told_at (v.state mid).told (with_bytes seen e.place bytes) _ tells keeps may_commit.0 may_commit.1 may_commit.2))
+
+      pub replaced : (placed : Bool) → OnOk result (LeavesNow (v.state new) (HasRoot (next_root root e.place e.length))) → IfErr result (λ x. x ≡ faults.Read → LeavesNow (v.state new) (HasRoot root))
+          → OnErr result (Side (KeepsRoot (v.state mid) (v.state new) root e.place e.length) (KeepsOthers (v.state mid) (v.state new) root e.place e.length) placed)
+          → ReadsWithin (slot_place (1 - root.slot)) 512 (v.state mid) (v.state new) → OnOk result (IsStable (v.state new)) → Replaced (v.state old) (v.state new) (next_root root e.place e.length) placed g result
+      replaced placed acknowledged unwritten torn others stable = record {
         any_moment = joined v old mid new Before Either Either before_stands
             (either_stands v mid new root e.place e.length inside g.feed g.before g.after g.placing (placing_behind (next_root root e.place e.length) g) g.made g.made_after (with_bytes seen e.place bytes) is_commit moments)
             (λ c is. inl is) (λ c is. is);
@@ -154,6 +174,5 @@ module _ {D : Type 0} (v : Device D) (old mid : D) (root : Root) (e : Extent) (b
             after_ok v mid new root e.place e.length inside g.feed g.before g.after g.placing (placing_behind (next_root root e.place e.length) g) g.made g.made_after (with_bytes seen e.place bytes) is_commit tells others fixed now);
         unwritten = on_fault (λ x. x ≡ faults.Read) result unwritten (λ still.
             after_fault v mid new root e.place e.length inside g.feed g.before g.after g.placing (placing_behind (next_root root e.place e.length) g) g.made g.made_after (with_bytes seen e.place bytes) is_commit still);
-        broken = on_err result torn (λ one.
-            broken_either v mid new root e.place e.length inside g.feed g.before g.after g.placing (placing_behind (next_root root e.place e.length) g) g.made g.made_after (with_bytes seen e.place bytes) is_commit moments one);
+        broken = broken_so placed torn;
       }

@@ -1,5 +1,5 @@
 -- What a commit needs, and what it leaves: of the images, of the store, and of the session that stood on them.
-use Rattle.std.specs.Prelude.{Bool, IfErr, IfSome, IsSome, IsTrue, List, None, OnErr, OnOk, Option, Some, [], false, filter, length, not, true, ⊤, ℕ, ◌++◌, ◌+◌, ◌∷◌, ◌≡◌, ◌⊎◌}
+use Rattle.std.specs.Prelude.{Bool, IfErr, IfSome, IsSome, IsTrue, List, None, OnErr, OnOk, Option, Some, [], false, filter, length, not, true, ⊤, ℕ, ◌++◌, ◌+◌, ◌-◌, ◌∷◌, ◌≡◌, ◌⊎◌}
 use Rattle.std.specs.List.Sorted.{IsPermutation}
 use Rattle.std.specs.declared.result.Result.{Result}
 use Rattle.std.specs.declared.result.Result.TheVariants.{Err, Ok}
@@ -17,6 +17,7 @@ use Rattle.lt_image_laws.specs.Commit.{IsRootedOnEither, broken_at, broken_by}
 use Rattle.lt_image_laws.specs.Next.{those}
 use Rattle.lt_image_laws.specs.Shelf.{FitsIndex, Shelved, TablesStand, manifest_for, placing_for, shelf_extents}
 use Rattle.lt_image_laws.specs.Standing.{IsRooted, placed_at}
+use Rattle.lt_root.specs.Roots.{next_root}
 use Rattle.lt_root.specs.declared.refusal.CommitFault.{CommitFault}
 use Rattle.lt_root.specs.declared.refusal.CommitFault.TheVariants as faults
 use Rattle.lt_space.specs.Extents.{Extents}
@@ -126,12 +127,12 @@ pub record IsWriting (disk : DiskState) (root : Root) (extent : Extent) (bytes :
   pub manifest : bytes ≡ manifest_bytes (manifest_for g.after.durable (kept_behind g))
 
 -- the images after a write or a sync failed: nothing of the part after is placed in any, or all of it in each
-abbrev pub IsBroken : DiskState → Root → Going → Type 0
-IsBroken disk r g = LeavesNow disk (IsHonest g.feed (placed_at (broken_by g.after g.before) g.placing g.made))
-    ⊎ LeavesNow disk (IsHonest g.feed (broken_at g.after g.before g.placing (placing_behind r g) g.made))
+abbrev pub IsBroken : DiskState → Root → Bool → Going → Type 0
+IsBroken disk r false g = LeavesNow disk (IsHonest g.feed (placed_at (broken_by g.after g.before) g.placing g.made))
+IsBroken disk r true g = LeavesNow disk (IsHonest g.feed (broken_at g.after g.before g.placing (placing_behind r g) g.made))
 
 -- What a commit leaves of the images, by how it ended.
-pub record Replaced (old new : DiskState) (r : Root) (g : Going) (result : Result (Unit {0}) CommitFault) : Type 0 where
+pub record Replaced (old new : DiskState) (r : Root) (placed : Bool) (g : Going) (result : Result (Unit {0}) CommitFault) : Type 0 where
   -- at each moment each image is of the state before or of the one after
   pub any_moment : LeftOnly old new (IsRootedOnEither g.feed g.before g.placing g.made g.after (placing_behind r g) g.made_after)
   -- after Ok the one after stands on every image
@@ -139,12 +140,16 @@ pub record Replaced (old new : DiskState) (r : Root) (g : Going) (result : Resul
   -- after a fault in a read the one before does
   pub unwritten : IfErr result (λ e. e ≡ faults.Read → LeavesNow new (IsRooted g.feed g.before g.placing g.made))
   -- after any fault the images are honest
-  pub broken : OnErr result (IsBroken new r g)
+  pub broken : OnErr result (IsBroken new r placed g)
+
+-- What it leaves of them for each session that stood on them.
+pub record Replaces (old new : DiskState) (root : Root) (e : Extent) (bytes : List ℕ) (result : Result (Unit {0}) CommitFault) : Type 0 where
+  -- whether all of the part after is placed in each image, where a write failed
+  pub placed : Bool
+  pub each : (g : Going) → IsWriting old root e bytes g → Replaced old new (next_root root e.place e.length) placed g result
 
 -- What a commit has left of the images and of the store.
-pub record HasCommitted (old new : DiskState) (store : Store) (g : Going) (result : Result (Unit {0}) CommitRefusal) : Type 0 where
-  -- the root that it makes count
-  pub root : Root
+pub record HasCommitted (old new : DiskState) (store : Store) (root : Root) (placed : Bool) (g : Going) (result : Result (Unit {0}) CommitRefusal) : Type 0 where
   -- at each moment each image is of the state before or of the one after
   pub any_moment : LeftOnly old new (IsRootedOnEither g.feed g.before g.placing g.made g.after (placing_behind root g) g.made_after)
   -- after Ok the one after stands on every image
@@ -152,7 +157,24 @@ pub record HasCommitted (old new : DiskState) (store : Store) (g : Going) (resul
   -- after a refusal that does not break the store the one before does
   pub refused : OnErr result (store.broken ≡ false → LeavesNow new (IsRooted g.feed g.before g.placing g.made) × StandsAt store g.placing (g.made ++ g.fresh))
   -- a broken store's images are honest
-  pub broken : store.broken ≡ true → IsBroken new root g
+  pub broken : store.broken ≡ true → IsBroken new root placed g
+
+-- What a commit leads to, for each session that stood on the images. The root and the side on which a broken store stands are known before
+-- the session is.
+pub record LeadsTo (disk disk' : DiskState) (old new : Store) (m : Manifest) (leaving : List Extent) (result : Result (Unit {0}) CommitRefusal) : Type 0 where
+  -- the root that it makes count
+  pub root : Root
+  -- whether all of the part after is placed in each image of a broken store
+  pub placed : Bool
+  -- after Ok the root counts
+  pub counts : OnOk result (new.root ≡ root)
+  pub each : (g : Going) → IsReady disk old m leaving g → HasCommitted disk disk' new root placed g result
+
+-- the root of the next commit, for a manifest of so many bytes
+pub record IsNextRoot (old new : Root) (size : ℕ) : Type 0 where
+  pub generation : new.generation ≡ old.generation + 1
+  pub slot : new.slot ≡ 1 - old.slot
+  pub length : new.length ≡ size
 
 -- the store's manifest and all that leaves are taken
 pub record HasTaken (store : Store) (leaving : List Extent) : Type 0 where

@@ -4,12 +4,12 @@ ghost use Rattle.std.specs.Prelude.{◌≡◌, ◌<◌, ◌+◌, ◌++◌, ◌-�
 ghost use Rattle.std.specs.List.Sorted.{IsPermutation};
 ghost use Rattle.lt_terms.specs.declared.Extent.{Extent};
 ghost use Rattle.lt_world.specs.Disk.{CountsOne, DiskGoes, HasCause};
-ghost use Rattle.lt_storage.specs.Store.{IsLawfulManifest};
+ghost use Rattle.lt_storage.specs.Store.{IsLawfulManifest, manifest_bytes};
 ghost use Rattle.lt_manifest.specs.View.{view_manifest};
 ghost use Rattle.lt_delta.specs.Writing.{TakesGap};
 ghost use Rattle.lt_root.specs.Roots.{next_root};
 ghost use Rattle.lt_root.specs.Steps.{of_write};
-ghost use Rattle.lt_store.specs.Commits.{Going, HasCommitted, HasKept, HasTaken, IsReady, IsWriting, RefusesCommit, RefusesGap, Replaced, fault_if, of_disk};
+ghost use Rattle.lt_store.specs.Commits.{HasKept, HasTaken, IsNextRoot, LeadsTo, RefusesCommit, RefusesGap, Replaces, fault_if, of_disk};
 ghost use Rattle.lt_store.specs.declared.committing.CommitRefusal.TheVariants as refusals;
 
 use crate::store::Store;
@@ -51,11 +51,12 @@ impl Store {
         requires taken { HasTaken self.old leaving.now }
 
         // From a session that stands on every image to the next one.
-        ensures leads { (g : Going) → IsReady (D.state disk.old) self.old (view_manifest next.now) leaving.now g
-            → HasCommitted (D.state disk.old) (D.state disk.new) self.new g result }
+        ensures leads { LeadsTo (D.state disk.old) (D.state disk.new) self.old self.new (view_manifest next.now)
+            leaving.now result }
 
         // On any disk: one commit more, or all as it was, or broken.
-        ensures ok { OnOk result (self.new.root.generation ≡ self.old.root.generation + 1) }
+        ensures ok { OnOk result (IsNextRoot self.old.root self.new.root
+            (length (manifest_bytes (view_manifest next.now)))) }
         ensures kept { HasKept self.old self.new leaving.now result }
         ensures refused { IfErr result (RefusesCommit self.old (view_manifest next.now)) }
         ensures untouched { IfErr result (λ e. (e ≡ refusals.Disk) ⊎ (disk.new ≡ disk.old)) }
@@ -103,8 +104,7 @@ fn replace<D: Disk>(
     requires some { 0 < length bytes.now }
     ensures ok { OnOk result (root.new ≡ next_root root.old extent.place extent.length) }
     ensures err { OnErr result (root.new ≡ root.old) }
-    ensures leads { (g : Going) → IsWriting (D.state disk.old) root.old extent bytes.now g
-        → Replaced (D.state disk.old) (D.state disk.new) (next_root root.old extent.place extent.length) g result }
+    ensures leads { Replaces (D.state disk.old) (D.state disk.new) root.old extent bytes.now result }
     ensures goes { DiskGoes (D.state disk.old) (D.state disk.new) }
     ensures cause { HasCause (D.state disk.old).faults (D.state disk.new).faults result }
     ensures written { HasCause (D.state disk.old).write_faults (D.state disk.new).write_faults (of_write result) }

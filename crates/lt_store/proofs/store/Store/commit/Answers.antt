@@ -9,11 +9,10 @@ use Rattle.lt_disk.proofs.Moments.{Device}
 use Rattle.lt_image_laws.proofs.Commit.{manifest_filled}
 use Rattle.lt_delta.specs.Writing.{TakesGap}
 use Rattle.lt_manifest.specs.View.{view_manifest}
-use Rattle.lt_root.specs.Roots.{next_root}
 use Rattle.lt_space.specs.Extents.{Extents, Takes}
-use Rattle.lt_store.specs.Commits.{HasTaken, Replaced}
+use Rattle.lt_store.specs.Commits.{HasTaken, Replaces}
 use Rattle.lt_store.specs.declared.store.Store.{Store}
-use Rattle.lt_store.proofs.Leading.{broken, done, kept, writing}
+use Rattle.lt_store.proofs.Leading.{leads_back, leads_off, leads_on}
 use Rattle.lt_store.proofs.Giving.{still_taken}
 use Rattle.lt_store.proofs.Spaces.{grown, more_there}
 use Rattle.lt_store.proofs.store.Store.commit.Given as given
@@ -59,18 +58,24 @@ returns-in-Ok-clause-kept g c =
           (c.give_all.ensures.rest (e ∷ rest) (still_taken (root_extent store.root) e c.args.leaving.now rest store.space c.take_gap.new.space c.give.new.self takes given p));
     }
 
+pub returns-in-Ok-clause-ok : goal.returns-in-Ok-clause-ok
+returns-in-Ok-clause-ok g c = record {
+  generation = ap (λ (r : Root). r.generation) c.in-Ok.ensures.ok;
+  slot = ap (λ (r : Root). r.slot) c.in-Ok.ensures.ok;
+  length = ap (λ (r : Root). r.length) c.in-Ok.ensures.ok ∙ c.in_ok-extent.ensures.taken.lowest.size ∙ c.len.ensures ∙ ap length c.in_ok-bytes.ensures;
+}
+
 pub returns-in-Ok-clause-leads : goal.returns-in-Ok-clause-leads
-returns-in-Ok-clause-leads g c = λ going ready.
+returns-in-Ok-clause-leads g c =
     let v = device g in
     let store = c.args.self.now in
     let m = view_manifest c.args.next.now in
-    let space = c.take_gap.new.space in
     let e = c.in_ok-extent.extent in
     let bytes = c.as_slice.result.now in
-    let takes = subst (λ n. TakesGap store.space space n e) (c.len.ensures ∙ ap length (sym c.as_slice.ensures)) c.in_ok-extent.ensures.taken in
-    let writes = writing v c.args.disk.now store m c.args.leaving.now going ready space e bytes takes (c.as_slice.ensures ∙ c.in_ok-bytes.ensures) in
+    let takes = subst (λ n. TakesGap store.space c.take_gap.new.space n e) (c.len.ensures ∙ ap length (sym c.as_slice.ensures)) c.in_ok-extent.ensures.taken in
+    let spelled = c.as_slice.ensures ∙ c.in_ok-bytes.ensures in
     let given = c.give.ensures.given in
-    done v c.args.disk.now store m c.args.leaving.now going ready space e bytes takes c.replace.new.disk _ c.give.new.self given c.give_all.ensures.rest (c.in-Ok.ensures.leads going writes) c.in-Ok.ensures.ok
+    leads_on v c.args.disk.now store m c.args.leaving.now c.take_gap.new.space e bytes takes spelled c.replace.new.disk _ c.give.new.self given c.give_all.ensures.rest c.in-Ok.ensures.leads c.in-Ok.ensures.ok
     (c.give_all.ensures.limit ∙ sym given.limit ∙ takes.taken.limit) c.requires.whole
 
 pub invariant_of-self-in-Err-Read : goal.invariant_of-self-in-Err-Read
@@ -84,17 +89,17 @@ returns-in-Err-Read-clause-kept g c =
     inl (record { root = c.in-Err-Read.ensures.err; space = c.give-in-Err-Read.ensures.undoes store.space some takes.taken; broken = refl })
 
 pub returns-in-Err-Read-clause-leads : goal.returns-in-Err-Read-clause-leads
-returns-in-Err-Read-clause-leads g c = λ going ready.
+returns-in-Err-Read-clause-leads g c =
     let v = device g in
     let store = c.args.self.now in
     let m = view_manifest c.args.next.now in
-    let space = c.take_gap.new.space in
     let e = c.in_ok-extent.extent in
     let bytes = c.as_slice.result.now in
-    let takes = subst (λ n. TakesGap store.space space n e) (c.len.ensures ∙ ap length (sym c.as_slice.ensures)) c.in_ok-extent.ensures.taken in
-    let some : 0 < c.in_ok-extent.extent.length = omega (arith, takes.lowest.size, manifest_filled (view_manifest c.args.next.now), ap length c.in_ok-bytes.ensures, ap length c.as_slice.ensures) in
-    let writes = writing v c.args.disk.now store m c.args.leaving.now going ready space e bytes takes (c.as_slice.ensures ∙ c.in_ok-bytes.ensures) in
-    kept v c.args.disk.now store m c.args.leaving.now going ready space e bytes takes c.replace.new.disk _ (subst (λ x. Replaced (v.state c.args.disk.now) (v.state c.replace.new.disk) (next_root store.root e.place e.length) going (Err x)) c.in-Err-Read.field-0-is (c.in-Err-Read.ensures.leads going writes))
+    let takes = subst (λ n. TakesGap store.space c.take_gap.new.space n e) (c.len.ensures ∙ ap length (sym c.as_slice.ensures)) c.in_ok-extent.ensures.taken in
+    let spelled = c.as_slice.ensures ∙ c.in_ok-bytes.ensures in
+    let some : 0 < e.length = omega (arith, takes.lowest.size, manifest_filled m, ap length c.in_ok-bytes.ensures, ap length c.as_slice.ensures) in
+    let rep = subst (λ x. Replaces (v.state c.args.disk.now) (v.state c.replace.new.disk) store.root e bytes (Err x)) c.in-Err-Read.field-0-is c.in-Err-Read.ensures.leads in
+    leads_back v c.args.disk.now store m c.args.leaving.now c.take_gap.new.space e bytes takes spelled c.replace.new.disk _ rep
     (record { root = c.in-Err-Read.ensures.err; space = c.give-in-Err-Read.ensures.undoes store.space some takes.taken; broken = refl }) c.requires.whole
 
 pub returns-clause-kept : goal.returns-clause-kept
@@ -104,13 +109,13 @@ returns-clause-kept g c =
     inr (refl, record { root = c.in-Err-Write.ensures.err; limit = takes.taken.limit; broken = refl; extent = c.in_ok-extent.extent; taken = grown store.space c.take_gap.new.space c.in_ok-extent.extent takes.taken })
 
 pub returns-clause-leads : goal.returns-clause-leads
-returns-clause-leads g c = λ going ready.
+returns-clause-leads g c =
     let v = device g in
     let store = c.args.self.now in
     let m = view_manifest c.args.next.now in
-    let space = c.take_gap.new.space in
     let e = c.in_ok-extent.extent in
     let bytes = c.as_slice.result.now in
-    let takes = subst (λ n. TakesGap store.space space n e) (c.len.ensures ∙ ap length (sym c.as_slice.ensures)) c.in_ok-extent.ensures.taken in
-    let writes = writing v c.args.disk.now store m c.args.leaving.now going ready space e bytes takes (c.as_slice.ensures ∙ c.in_ok-bytes.ensures) in
-    broken v c.args.disk.now store m c.args.leaving.now going ready space e bytes takes c.replace.new.disk _ (subst (λ x. Replaced (v.state c.args.disk.now) (v.state c.replace.new.disk) (next_root store.root e.place e.length) going (Err x)) c.in-Err-Write.field-0-is (c.in-Err-Write.ensures.leads going writes)) refl
+    let takes = subst (λ n. TakesGap store.space c.take_gap.new.space n e) (c.len.ensures ∙ ap length (sym c.as_slice.ensures)) c.in_ok-extent.ensures.taken in
+    let spelled = c.as_slice.ensures ∙ c.in_ok-bytes.ensures in
+    let rep = subst (λ x. Replaces (v.state c.args.disk.now) (v.state c.replace.new.disk) store.root e bytes (Err x)) c.in-Err-Write.field-0-is c.in-Err-Write.ensures.leads in
+    leads_off v c.args.disk.now store m c.args.leaving.now c.take_gap.new.space e bytes takes spelled c.replace.new.disk _ rep refl
