@@ -1,10 +1,10 @@
 -- Where a store stands, from call to call, on any disk: its manifest's extent is taken, and a commit leads it from placing to placing.
-use Rattle.std.proofs.Common.{Bool, List, [], ap, ap₂, arith, false, inl, inr, refl, subst, sym, true, ℕ, ◌++◌, ◌+◌, ◌∙◌, ◌∷◌, ◌≡◌, ◌⊎◌}
+use Rattle.std.proofs.Common.{Bool, List, [], ap, arith, false, inl, inr, refl, subst, sym, ℕ, ◌++◌, ◌∙◌, ◌∷◌, ◌≡◌}
 use Rattle.std.specs.Prelude.{Err, Ok, Option, Result, filter, map, not}
 use Rattle.std.specs.List.Sorted.{IsPermutation}
 use Rattle.std.proofs.lemmas.Bool.{false≢true}
 use Rattle.std.proofs.lemmas.List.{append_assoc}
-use Rattle.std.proofs.lemmas.List.Sorted.{IsPermutation-append_left, IsPermutation-cons, IsPermutation-refl, IsPermutation-sym, IsPermutation-trans, sum_by-IsPermutation}
+use Rattle.std.proofs.lemmas.List.Sorted.{IsPermutation-append_left, IsPermutation-cons, IsPermutation-refl, IsPermutation-trans, sum_by-IsPermutation}
 use Rattle.std.proofs.lemmas.List.Sums.{sum_by-append, sum_by-cons}
 use Rattle.lt_terms.specs.declared.Extent.{Extent}
 use Rattle.lt_terms.specs.declared.Root.{Root}
@@ -15,7 +15,7 @@ use Rattle.lt_store.specs.Commits.{Added, HasKept, HasMoved, HasTaken, StaysStor
 use Rattle.lt_store.specs.Standing.{StandsAt}
 use Rattle.lt_store.specs.declared.committing.CommitRefusal.{CommitRefusal}
 use Rattle.lt_store.specs.declared.store.Store.{Store}
-use Rattle.lt_store.proofs.Counting.{count, from_counts, same}
+use Rattle.lt_store.proofs.Counting.{from_counts, same}
 use Rattle.lt_store.proofs.Shelves as shelves
 
 -- what a placing names beside its manifest

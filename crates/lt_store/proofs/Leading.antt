@@ -144,9 +144,9 @@ module _ {D : Type 0} (v : Device D) (old : D) (store : Store) (m : Manifest) (l
           taken = final (extents_of (placing_behind (next_root store.root e.place e.length) g) ++ g.made_after) left;
         }
 
-        done : (placed : Bool) → Replaced (v.state old) (v.state new) (next_root store.root e.place e.length) placed g (Ok tt) → s'.root ≡ next_root store.root e.place e.length → s'.space.limit ≡ store.space.limit → s'.broken ≡ false
-            → HasCommitted (v.state old) (v.state new) s' (next_root store.root e.place e.length) placed g (Ok tt)
-        done placed rep root limit whole = record {
+        done : (side : Bool) → Replaced (v.state old) (v.state new) (next_root store.root e.place e.length) side g (Ok tt) → s'.root ≡ next_root store.root e.place e.length → s'.space.limit ≡ store.space.limit → s'.broken ≡ false
+            → HasCommitted (v.state old) (v.state new) s' (next_root store.root e.place e.length) side g (Ok tt)
+        done side rep root limit whole = record {
           any_moment = rep.any_moment;
           acknowledged = (rep.acknowledged, stands_after root limit);
           refused = tt;
@@ -154,9 +154,9 @@ module _ {D : Type 0} (v : Device D) (old : D) (store : Store) (m : Manifest) (l
         }
 
       -- a fault in a read
-      kept : (placed : Bool) → Replaced (v.state old) (v.state new) (next_root store.root e.place e.length) placed g (Err faults.Read) → StaysStore store s' → store.broken ≡ false
-          → HasCommitted (v.state old) (v.state new) s' (next_root store.root e.place e.length) placed g (Err refusals.Disk)
-      kept placed rep same_store whole = record {
+      kept : (side : Bool) → Replaced (v.state old) (v.state new) (next_root store.root e.place e.length) side g (Err faults.Read) → StaysStore store s' → store.broken ≡ false
+          → HasCommitted (v.state old) (v.state new) s' (next_root store.root e.place e.length) side g (Err refusals.Disk)
+      kept side rep same_store whole = record {
         any_moment = rep.any_moment;
         acknowledged = tt;
         refused = λ _. (
@@ -171,9 +171,9 @@ module _ {D : Type 0} (v : Device D) (old : D) (store : Store) (m : Manifest) (l
       }
 
       -- a fault in a write or a sync
-      broken : (placed : Bool) → Replaced (v.state old) (v.state new) (next_root store.root e.place e.length) placed g (Err faults.Write) → s'.broken ≡ true
-          → HasCommitted (v.state old) (v.state new) s' (next_root store.root e.place e.length) placed g (Err refusals.Disk)
-      broken placed rep is = record {
+      broken : (side : Bool) → Replaced (v.state old) (v.state new) (next_root store.root e.place e.length) side g (Err faults.Write) → s'.broken ≡ true
+          → HasCommitted (v.state old) (v.state new) s' (next_root store.root e.place e.length) side g (Err refusals.Disk)
+      broken side rep is = record {
         any_moment = rep.any_moment;
         acknowledged = tt;
         refused = λ whole. absurd (false≢true (sym whole ∙ is));

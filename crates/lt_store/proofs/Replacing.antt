@@ -5,7 +5,7 @@ use Rattle.std.proofs.lemmas.Bool.{and_parts, false≢true}
 use Rattle.std.proofs.lemmas.List.Sorted.{Contains-permutation, IsPermutation-sym}
 use Rattle.lt_terms.specs.declared.Extent.{Extent}
 use Rattle.lt_terms.specs.declared.Root.{Root}
-use Rattle.lt_world.specs.Disk.{LeavesNow, LeftOnly, StaysOutside, bytes_in, with_bytes}
+use Rattle.lt_world.specs.Disk.{LeavesNow, LeftOnly, bytes_in, with_bytes}
 use Rattle.lt_world.specs.Extents.{end_of}
 use Rattle.lt_world.specs.Slots.{HasRoot, slot_place}
 use Rattle.lt_storage.specs.Store.{are_within, extents_of}
@@ -60,10 +60,10 @@ abbrev Side : Type 0 → Type 0 → Bool → Type 0
 Side A B false = A
 Side A B true = B
 
-pub side_of : {T E A B : Type 0} (r : Result T E) → OnErr r (A ⊎ B) → (placed : Bool) × OnErr r (Side A B placed)
-side_of (Ok x) torn = (false, tt)
-side_of (Err e) (inl first) = (false, first)
-side_of (Err e) (inr second) = (true, second)
+pub side_of : {T E : Type 0} (A B : Type 0) (r : Result T E) → OnErr r (A ⊎ B) → (placed : Bool) × OnErr r (Side A B placed)
+side_of A B (Ok x) torn = (false, tt)
+side_of A B (Err e) (inl first) = (false, first)
+side_of A B (Err e) (inr second) = (true, second)
 
 within_rest : (image : List ℕ) (xs ys : List Extent) → IsTrue (are_within image (xs ++ ys)) → IsTrue (are_within image ys)
 within_rest image [] ys h = h

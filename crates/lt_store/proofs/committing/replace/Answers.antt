@@ -2,6 +2,7 @@ use Rattle.std.proofs.Common.{false}
 use Rattle.lt_world.specs.Disk.{with_bytes}
 use Rattle.lt_disk.proofs.Moments.{Device, told_at}
 use Rattle.lt_delta.proofs.Writes.{failed, told_written, wrote}
+use Rattle.lt_root.specs.Steps.{KeepsOthers, KeepsRoot}
 use Rattle.lt_store.proofs.Replacing.{may_commit, not_written, replaced, side_of, some_there}
 use Rattle.lt_store.proofs.committing.replace.Given as given
 use Rattle.lt_store.proofs.committing.replace.Goals as goal
@@ -22,7 +23,12 @@ returns-in-Err-clause-leads g c = record {
 
 pub returns-in-Ok-clause-leads : goal.returns-in-Ok-clause-leads
 returns-in-Ok-clause-leads g c =
-    let side = side_of c.try_commit.result c.try_commit.ensures.torn in
+    let before = (device g).state c.write_at.new.self in
+    let now = (device g).state c.try_commit.new.disk in
+    let root = c.args.root.now in
+    let place = c.args.extent.place in
+    let len = c.args.extent.length in
+    let side = side_of (KeepsRoot before now root place len) (KeepsOthers before now root place len) c.try_commit.result c.try_commit.ensures.torn in
     record {
       placed = side.0;
       each = λ going w.
