@@ -11,7 +11,7 @@ use Rattle.lt_terms.specs.declared.Root.{Root}
 use Rattle.lt_storage.specs.Store.{Durable, Manifest, Placing, TableIndex, bundle_extents, extents_of, root_extent}
 use Rattle.lt_image_laws.specs.Shelf.{Shelved, placing_for, shelf_extents}
 use Rattle.lt_space.specs.Extents.{Extents}
-use Rattle.lt_store.specs.Commits.{Added, HasKept, HasMoved, HasTaken, StaysStore, kept_with, pieces_of}
+use Rattle.lt_store.specs.Commits.{Added, HasKept, HasMoved, HasTaken, kept_with, pieces_of}
 use Rattle.lt_store.specs.Standing.{StandsAt}
 use Rattle.lt_store.specs.declared.committing.CommitRefusal.{CommitRefusal}
 use Rattle.lt_store.specs.declared.store.Store.{Store}
@@ -75,24 +75,25 @@ kept_taken old new (Err e) has kept = elim kept [
 
 -- ---- after a refusal
 
-pub as_it_stood : (old new : Store) (l : Placing) (besides : List Extent) → StandsAt old l besides → StaysStore old new → StandsAt new l besides
-as_it_stood old new l besides at same = record {
-  root = at.root ∙ sym same.root;
-  limit = at.limit ∙ ap (λ (x : Extents). x.limit) (sym same.space);
-  taken = subst (λ (x : Extents). IsPermutation (extents_of l ++ besides) x.taken) (sym same.space) at.taken;
+-- the root and the space are as before, as they are also where a store is broken off
+pub as_it_stood : (old new : Store) (l : Placing) (besides : List Extent) → StandsAt old l besides → new.root ≡ old.root → new.space ≡ old.space → StandsAt new l besides
+as_it_stood old new l besides at root space = record {
+  root = at.root ∙ sym root;
+  limit = at.limit ∙ ap (λ (x : Extents). x.limit) (sym space);
+  taken = subst (λ (x : Extents). IsPermutation (extents_of l ++ besides) x.taken) (sym space) at.taken;
 }
 
 -- a store that is not broken stands as before
 pub refused_stands : (old new : Store) (l : Placing) (besides leaving : List Extent) (e : CommitRefusal) → StandsAt old l besides → HasKept old new leaving (Err e) → new.broken ≡ false → StandsAt new l besides
 refused_stands old new l besides leaving e at kept whole = elim kept [
-  | inl same ↦ as_it_stood old new l besides at same
+  | inl same ↦ as_it_stood old new l besides at same.root same.space
   | inr broken ↦ absurd (false≢true (sym whole ∙ broken.1.broken))
 ]
 
--- a broken one stands at the same placing, and what was taken stays live
+-- a broken one stands at the same placing, with what was taken beside it
 pub broken_stands : (old new : Store) (l : Placing) (besides leaving : List Extent) (e : CommitRefusal) → StandsAt old l besides → HasKept old new leaving (Err e) → (after : List Extent) × StandsAt new l after
 broken_stands old new l besides leaving e at kept = elim kept [
-  | inl same ↦ (besides, as_it_stood old new l besides at same)
+  | inl same ↦ (besides, as_it_stood old new l besides at same.root same.space)
   | inr broken ↦ (
     besides ++ broken.1.extent ∷ [],
     record {

@@ -29,6 +29,7 @@ use Rattle.lt_store.specs.declared.committing.CommitRefusal.TheVariants as refus
 use Rattle.lt_store.specs.declared.store.Store.{Store}
 use Rattle.lt_store.proofs.Counting.{count, from_counts, same}
 use Rattle.lt_store.proofs.Giving.{took}
+use Rattle.lt_store.proofs.Keeping.{as_it_stood}
 use Rattle.lt_store.proofs.Replacing.{some_there}
 use Rattle.lt_store.proofs.Shelves.{behind, joined, parted}
 use Rattle.lt_store.proofs.Shelves as shelves
@@ -161,11 +162,7 @@ module _ {D : Type 0} (v : Device D) (old : D) (store : Store) (m : Manifest) (l
         acknowledged = tt;
         refused = λ _. (
           rep.unwritten refl,
-          record {
-            root = r.at.root ∙ sym same_store.root;
-            limit = r.at.limit ∙ ap (λ (x : Extents). x.limit) (sym same_store.space);
-            taken = subst (λ (x : Extents). IsPermutation (extents_of g.placing ++ (g.made ++ g.fresh)) x.taken) (sym same_store.space) r.at.taken;
-          },
+          as_it_stood store s' g.placing (g.made ++ g.fresh) r.at same_store.root same_store.space,
         );
         broken = λ is. absurd (false≢true (sym whole ∙ sym same_store.broken ∙ is));
       }
