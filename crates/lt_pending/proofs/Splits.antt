@@ -2,10 +2,9 @@
 use Rattle.std.proofs.Common.{◌≡◌, ℕ, List, [], ◌∷◌, ◌++◌, refl, sym, ap, subst, ◌∙◌, true, false, Ordering, Less, Equal, Greater, All, append_assoc, append-nil, arith, get_or, length, length-append, suc}
 use Rattle.std.specs.Prelude.{Bool, IfSome, None, Option, Some, IsSome, cond, filter, is_some, not, slice_get, ◌+◌, ◌-◌, ◌&&◌, ◌≤◌}
 use Rattle.std.specs.Map.{keys_of}
-use Rattle.std.specs.Ordering.{is_le, is_lt, match_ordering, ordering_reverse}
-use Rattle.std.specs.List.{AllByRecursion, count_by}
+use Rattle.std.specs.Ordering.{is_le, is_lt, ordering_reverse}
+use Rattle.std.specs.List.{count_by}
 use Rattle.std.specs.List.Sorted.{IsStrictlySortedBy}
-use Rattle.std.specs.BTreeMap.{insert_entry}
 use Rattle.std.specs.BTreeMap.Range.{entries_between, range_contains}
 use Rattle.std.specs.declared.ops.Bound.TheVariants.{Included, Unbounded}
 use Rattle.std.proofs.Math.Seq.{get_or-append_seam}
@@ -19,7 +18,7 @@ use Rattle.lt_terms.specs.Key.{below, bytes_cmp}
 use Rattle.lt_terms.specs.Log.{Change, change_key}
 use Rattle.lt_codecs.proofs.ListFacts.{all_front, all_rest}
 use Rattle.lt_lemmas.proofs.ClipLaws.{key-trans}
-use Rattle.lt_pending.specs.Stamps.{AreNamed, Stamps, change_at, changes_at, changes_in}
+use Rattle.lt_pending.specs.Stamps.{AreNamed, change_at, changes_at, changes_in}
 use Rattle.lt_pending.proofs.Puts.{Held, Named, Stamped, key-equal}
 
 -- ---- the changes of one list of keys behind another

@@ -76,6 +76,7 @@ impl Changes {
         ensures { IfOk result (λ upper. held_in upper ≡ filter (λ c. not (below (change_key c) key.now))
             (held_in self.now)) }
     {
+        let _held = self.count;
         let keys = copy_from(&self.keys, key)?;
         let count = count_in(&keys);
         Ok(Changes { keys, count })
@@ -85,7 +86,8 @@ impl Changes {
     pub fn keep_below(&mut self, key: &KeyBytes)
         ensures { held_in self.new ≡ filter (λ c. below (change_key c) key.now) (held_in self.old) }
     {
-        self.count -= drop_from(&mut self.keys, key);
+        let held = self.count;
+        self.count = held - drop_from(&mut self.keys, key);
     }
 
     /// Adds each change to a list, by falling key and rising timestamp. After an `Err` the list is some list.

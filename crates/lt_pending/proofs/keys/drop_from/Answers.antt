@@ -1,37 +1,36 @@
-use Rattle.std.proofs.Common.{rules, ◌≡◌, ◌+◌, ◌<◌, ◌^◌, [], false, filter, IfNone, IfOk, IfSome, IsSome, IsTrue, None, not, OnErr, OnOk, if◌then◌else◌, length, unwrap_or, ℕ, ◌-◌, ◌*◌, ◌≤◌, ◌/◌, ◌%◌, Bool, true, nat_eq, nat_lt, List, ◌∷◌, ◌++◌, slice_index_or, slice_set, bit_and, bit_or, Fits, w8, w32, w64, Bor, MutBor}
-use Rattle.std.specs.List.{AllByRecursion}
-use Rattle.std.specs.BTreeMap.{get}
-use Rattle.lt_terms.specs.Key.{below, bytes_cmp}
-use Rattle.lt_terms.specs.Log.{change_key}
-use Rattle.lt_tables.specs.Pump.{put_change, without_change}
-use Rattle.lt_records.specs.View.{view_change}
-use Rattle.lt_pending.specs.Stamps.{AreNamed, changes_in}
+use Rattle.std.proofs.Common.{arith, length, refl, ◌+◌, ◌<◌, ◌^◌, ◌∙◌, ◌≡◌}
+use Rattle.lt_pending.specs.Stamps.{changes_in}
 use Rattle.lt_pending.proofs.keys.drop_from.Goals as goal
 
--- src/keys.rt:112:5
 pub last-init : goal.last-init
-last-init c = ?
+last-init c = record {
+  below = refl;
+  count = omega arith;
+  named = c.requires.named;
+}
 
--- src/keys.rt:112:36
 pub pop_from-requires : goal.pop_from-requires
-pop_from-requires c = ?
+pop_from-requires c = c.last.invariant.named
 
--- src/keys.rt:113:9
 pub overflow_add-dropped : goal.overflow_add-dropped
-overflow_add-dropped c = ?
+overflow_add-dropped c =
+    let all : length (changes_in c.last.keys.entries) + c.last.dropped ≡ length (changes_in c.args.keys.now.entries) = c.last.invariant.count in
+    let own : length (changes_in c.pop_from.new.keys.entries) + c.in-Some.count ≡ length (changes_in c.last.keys.entries) = c.in-Some.ensures.count in
+    let few : length (changes_in c.args.keys.now.entries) < 2 ^ 64 = c.requires.few in
+    omega (arith, all, own, few)
 
--- src/keys.rt:112:5
 pub last-smaller : goal.last-smaller
-last-smaller c = ?
+last-smaller c = c.in-Some.ensures.fewer refl
 
--- src/keys.rt:112:5
 pub last-preserved : goal.last-preserved
-last-preserved c = ?
+last-preserved c = record {
+  below = c.in-Some.ensures.below ∙ c.last.invariant.below;
+  count = omega (arith, c.last.invariant.count, c.in-Some.ensures.count);
+  named = c.in-Some.ensures.named;
+}
 
--- src/keys.rt:103:1
 pub returns-clause-changes : goal.returns-clause-changes
-returns-clause-changes c = ?
+returns-clause-changes c = c.in_default.ensures.end ∙ c.last.invariant.below
 
--- src/keys.rt:103:1
 pub returns-clause-count : goal.returns-clause-count
-returns-clause-count c = ?
+returns-clause-count c = omega (arith, c.last.invariant.count, c.in_default.ensures.count)
