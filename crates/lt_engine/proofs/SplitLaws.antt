@@ -1,6 +1,6 @@
 -- A split: what it is refused for, and what it makes of the partitions and of what each holds.
 use Rattle.std.proofs.Common.{Bool, List, [], add-one, ap, ap₂, arith, cond, false, get_or, length, not, refl, set, subst, suc, sym, true, zero, ℕ, ◌+◌, ◌++◌, ◌<◌, ◌∙◌, ◌∷◌, ◌≡◌, ◌≤◌}
-use Rattle.std.specs.Prelude.{None, Option, Some, IsTrue, codes, filter, find, insert, is_none, map, nat_le, nat_lt, option_and_then, option_map, remove, ◌&&◌, ◌==◌, ◌^◌, ◌-◌}
+use Rattle.std.specs.Prelude.{None, Option, Some, IsTrue, codes, filter, find, insert, is_none, map, nat_le, nat_lt, option_and_then, option_map, ◌&&◌, ◌==◌, ◌^◌, ◌-◌}
 use Rattle.std.specs.List.{AllByRecursion}
 use Rattle.std.specs.Option.{option_or}
 use Rattle.std.proofs.lemmas.List.{length-map}
