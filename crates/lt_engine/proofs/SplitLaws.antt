@@ -1,6 +1,6 @@
 -- A split: what it is refused for, and what it makes of the partitions and of what each holds.
 use Rattle.std.proofs.Common.{Bool, List, [], add-one, ap, ap₂, arith, cond, false, get_or, length, not, refl, set, subst, suc, sym, true, zero, ℕ, ◌+◌, ◌++◌, ◌<◌, ◌∙◌, ◌∷◌, ◌≡◌, ◌≤◌}
-use Rattle.std.specs.Prelude.{None, Option, Some, IsTrue, codes, filter, find, insert, is_none, map, nat_le, nat_lt, option_and_then, option_map, remove, ◌&&◌, ◌==◌, ◌^◌, ◌-◌}
+use Rattle.std.specs.Prelude.{None, Option, Some, IsTrue, codes, filter, find, insert, is_none, map, nat_le, nat_lt, option_and_then, option_map, ◌&&◌, ◌==◌, ◌^◌, ◌-◌}
 use Rattle.std.specs.List.{AllByRecursion}
 use Rattle.std.specs.Option.{option_or}
 use Rattle.std.proofs.lemmas.List.{length-map}
@@ -29,7 +29,7 @@ use Rattle.lt_pump.specs.Given.{AreBehind, IsBehind}
 use Rattle.lt_steps.specs.Memory.{split_memory}
 use Rattle.lt_engine.proofs.RangeLaws.{lows_parts, ranges_length}
 use Rattle.lt_engine.specs.Behind.{are_behind}
-use Rattle.lt_engine.specs.Splitting.{IsSplitKey, key_fault, named_key_fault, parted_at, parts_fault}
+use Rattle.lt_engine.specs.Splitting.{IsSplitKey, key_fault, named_key_fault, parted_at, parts_fault, upper_at}
 use Rattle.lt_engine.specs.State.{part_of_entry, state_with}
 use Rattle.lt_engine.proofs.BehindLaws.{behind_true, true_behind}
 use Rattle.lt_engine.proofs.Refusals.{or_none, or_three, worn_at}
@@ -274,24 +274,23 @@ memory_of_key cat name ls key mem new rs k e = e ∙ ap (λ (x : List ℕ). spli
 
 -- ---- the lists of changes
 
--- a place more, and then the halves in the partition's own place and in the new one
-held_parted : (key : List ℕ) (xs : List Changes) (p : ℕ) (empty x low high : Changes) → p < length xs → x ≡ get_or (insert xs (suc p) empty) p x → held_in low ≡ lower key (held_in x) → held_in high ≡ upper key (held_in x)
-    → map held_in (set (set (insert xs (suc p) empty) p low) (suc p) high) ≡ parted_at p key (map held_in xs)
-held_parted key [] p empty x low high l e a b = absurd (omega (arith, l))
-held_parted key (y ∷ xs) zero empty x low high l e a b = ap₂ (λ (u v : List Change). u ∷ v ∷ map held_in xs) (a ∙ ap (λ (z : Changes). lower key (held_in z)) e) (b ∙ ap (λ (z : Changes). upper key (held_in z)) e)
-held_parted key (y ∷ xs) (suc p) empty x low high l e a b = ap (λ (m : Memory). held_in y ∷ m) (held_parted key xs p empty x low high (omega (arith, l)) e a b)
+held_at : (xs : List Changes) (p : ℕ) (x : Changes) → p < length xs → x ≡ get_or xs p x → get_or (map held_in xs) p [] ≡ held_in x
+held_at [] p x l e = absurd (omega (arith, l))
+held_at (y ∷ xs) zero x l e = ap held_in (sym e)
+held_at (y ∷ xs) (suc p) x l e = held_at xs p x (omega (arith, l)) e
 
-pub held_split : (key : List ℕ) (xs : List Changes) (p : ℕ) (empty x low high : Changes) → p < length xs → x ≡ get_or (insert xs (p + 1) empty) p x → held_in low ≡ lower key (held_in x) → held_in high ≡ upper key (held_in x)
-    → map held_in (set (set (insert xs (p + 1) empty) p low) (p + 1) high) ≡ parted_at p key (map held_in xs)
-held_split key xs p empty x low high l e a b =
-    ap (λ (n : ℕ). map held_in (set (set (insert xs n empty) p low) n high)) (add-one p) ∙ held_parted key xs p empty x low high l (subst (λ (n : ℕ). x ≡ get_or (insert xs n empty) p x) (add-one p) e) a b
+-- what one of them holds from a key on
+pub upper_held : (key : List ℕ) (xs : List Changes) (p : ℕ) (x high : Changes) → p < length xs → x ≡ get_or xs p x → held_in high ≡ upper key (held_in x) → held_in high ≡ upper_at p key (map held_in xs)
+upper_held key xs p x high l e h = h ∙ ap (upper key) (sym (held_at xs p x l e))
 
--- and the place taken back
-held_kept : (xs : List Changes) (p : ℕ) (empty x y : Changes) → p < length xs → x ≡ get_or (insert xs (suc p) empty) p x → held_in y ≡ held_in x → map held_in (remove (set (insert xs (suc p) empty) p y) (suc p)) ≡ map held_in xs
-held_kept [] p empty x y l e h = absurd (omega (arith, l))
-held_kept (z ∷ xs) zero empty x y l e h = ap (λ (u : List Change). u ∷ map held_in xs) (h ∙ ap held_in e)
-held_kept (z ∷ xs) (suc p) empty x y l e h = ap (λ (m : Memory). held_in z ∷ m) (held_kept xs p empty x y (omega (arith, l)) e h)
+-- the upper half behind, and then the lower half in the partition's place
+held_parted : (key : List ℕ) (xs : List Changes) (p : ℕ) (x low high : Changes) → p < length xs → x ≡ get_or (insert xs (suc p) high) p x → held_in low ≡ lower key (held_in x) → held_in high ≡ upper_at p key (map held_in xs)
+    → map held_in (set (insert xs (suc p) high) p low) ≡ parted_at p key (map held_in xs)
+held_parted key [] p x low high l e a b = absurd (omega (arith, l))
+held_parted key (y ∷ xs) zero x low high l e a b = ap₂ (λ (u v : List Change). u ∷ v ∷ map held_in xs) (a ∙ ap (λ (z : Changes). lower key (held_in z)) e) b
+held_parted key (y ∷ xs) (suc p) x low high l e a b = ap (λ (m : Memory). held_in y ∷ m) (held_parted key xs p x low high (omega (arith, l)) e a b)
 
-pub held_back : (xs : List Changes) (p : ℕ) (empty x y : Changes) → p < length xs → x ≡ get_or (insert xs (p + 1) empty) p x → held_in y ≡ held_in x → map held_in (remove (set (insert xs (p + 1) empty) p y) (p + 1)) ≡ map held_in xs
-held_back xs p empty x y l e h =
-    ap (λ (n : ℕ). map held_in (remove (set (insert xs n empty) p y) n)) (add-one p) ∙ held_kept xs p empty x y l (subst (λ (n : ℕ). x ≡ get_or (insert xs n empty) p x) (add-one p) e) h
+pub held_split : (key : List ℕ) (xs : List Changes) (p : ℕ) (x low high : Changes) → p < length xs → x ≡ get_or (insert xs (p + 1) high) p x → held_in low ≡ lower key (held_in x) → held_in high ≡ upper_at p key (map held_in xs)
+    → map held_in (set (insert xs (p + 1) high) p low) ≡ parted_at p key (map held_in xs)
+held_split key xs p x low high l e a b =
+    ap (λ (n : ℕ). map held_in (set (insert xs n high) p low)) (add-one p) ∙ held_parted key xs p x low high l (subst (λ (n : ℕ). x ≡ get_or (insert xs n high) p x) (add-one p) e) a b

@@ -1,8 +1,8 @@
 -- How the key of a split is found, and what is parted there.
-use Rattle.std.specs.Prelude.{List, None, Option, Some, [], codes, filter, is_none, length, nat_le, nat_lt, not, option_and_then, option_map, suc, zero, ℕ, ◌==◌, ◌∷◌, ◌≡◌}
+use Rattle.std.specs.Prelude.{List, None, Option, Some, [], codes, filter, is_none, length, nat_le, nat_lt, not, option_and_then, option_map, slice_index_or, suc, zero, ℕ, ◌==◌, ◌∷◌, ◌≡◌}
 use Rattle.std.specs.Option.{option_or}
 use Rattle.lt_terms.specs.Key.{below, max_key}
-use Rattle.lt_terms.specs.Log.{change_key}
+use Rattle.lt_terms.specs.Log.{Change, change_key}
 use Rattle.lt_machine.specs.Machine.{part_misfit, split_key}
 use Rattle.lt_machine.specs.Sound.{Memory}
 use Rattle.lt_tables.specs.Query.{Literal, bound}
@@ -44,6 +44,10 @@ pub record IsSplitKey (cat : Catalogue) (name : List ℕ) (ls : List Literal) (k
 -- why partitions are not split at a key
 abbrev pub parts_fault : List PartEntry → List ℕ → Option model.Refusal
 parts_fault es key = option_or (option_map at_edge (edge_in es key)) (when (nat_le 1024 (length es)) too_many_parts)
+
+-- what the partition at a place holds from a key on
+abbrev pub upper_at : ℕ → List ℕ → Memory → List Change
+upper_at part key mem = filter (λ c. not (below (change_key c) key)) (slice_index_or mem part [])
 
 -- what the partition at a place holds is parted at a key
 abbrev pub parted_at : ℕ → List ℕ → Memory → Memory

@@ -2,7 +2,8 @@
 //!
 //! It takes time by the partitions, as many for each stream, and by what the partition holds.
 
-ghost use Rattle.std.specs.Prelude.{◌≡◌, ◌+◌, ◌<◌, ◌≤◌, IfErr, IfNone, IfOk, IfSome, None, OnErr, OnOk, codes, length, map, option_map};
+ghost use Rattle.std.specs.Prelude.{◌≡◌, ◌+◌, ◌<◌, ◌≤◌, IfErr, IfNone, IfOk, IfSome, None, OnOk, codes, length, map, option_map};
+ghost use Rattle.std.specs.Vec.{vec_capacity};
 ghost use Rattle.lt_core.specs.View.{view_part, view_parts};
 ghost use Rattle.lt_tables.specs.Pump.{part_of};
 ghost use Rattle.lt_machine.specs.Machine.{part_misfit, refused};
@@ -14,7 +15,7 @@ ghost use Rattle.lt_parts.specs.Parts.{IsSplit, ranges};
 ghost use Rattle.lt_pending.specs.Held.{held_in};
 ghost use Rattle.lt_pred.specs.View.{view_literal, view_literals};
 ghost use Rattle.lt_schema.specs.View.{view_key, view_version};
-ghost use Rattle.lt_engine.specs.Splitting.{IsOfTable, IsSplitKey, key_fault, named_key_fault, parted_at, parts_fault};
+ghost use Rattle.lt_engine.specs.Splitting.{IsOfTable, IsSplitKey, key_fault, named_key_fault, parted_at, parts_fault, upper_at};
 ghost use Rattle.lt_engine.specs.State.{state_of};
 ghost use Rattle.lt_engine.specs.Steps.{Refuses, Splits, Stays};
 
@@ -43,8 +44,9 @@ impl Replica {
         }
         let key = key_of(self.allocator(), &self.catalogue, table, key)?;
         let (mut map, upper) = split_map(&self.map, &key)?;
-        split_held(&mut self.parts, upper - 1, &key)?;
+        let half = upper_half(&mut self.parts, upper - 1, &key)?;
         settle(&mut map, &self.pump);
+        install_halves(&mut self.parts, upper - 1, &key, half);
         self.map = map;
         self.generation += 1;
         Ok(Reply::Split {
@@ -71,24 +73,29 @@ fn split_map(map: &PartMap, key: &KeyBytes) -> Result<(PartMap, usize), Refusal>
     }
 }
 
-/// Parts what a partition holds at a key. An `Err` changes nothing.
-#[tactic(auto, using(crate::proofs::SplitLaws::held_split, crate::proofs::SplitLaws::held_back))]
-fn split_held(parts: &mut Vec<Changes>, part: usize, key: &KeyBytes) -> Result<(), Memory>
+/// A copy of what a partition holds from a key on, and room for one partition more. An `Err` changes nothing.
+#[tactic(auto, using(crate::proofs::SplitLaws::upper_held))]
+fn upper_half(parts: &mut Vec<Changes>, part: usize, key: &KeyBytes) -> Result<Changes, Memory>
     requires { part < length parts.old.items }
-    ensures ok { OnOk result (map held_in parts.new.items ≡ parted_at part key.now (map held_in parts.old.items)) }
-    ensures err { OnErr result (map held_in parts.new.items ≡ map held_in parts.old.items) }
+    ensures held { parts.new.items ≡ parts.old.items }
+    ensures room { OnOk result (length parts.new.items < vec_capacity parts.new) }
+    ensures upper { IfOk result (λ upper. held_in upper ≡ upper_at part key.now (map held_in parts.old.items)) }
 {
-    let empty = Changes::new(*parts.allocator());
-    parts.insert(part + 1, empty)?;
-    match parts[part].split_off(key) {
-        Ok(upper) => {
-            parts[part + 1] = upper;
-            Ok(())
-        }
-        Err(lack) => {
-            parts.remove(part + 1);
-            Err(lack)
-        }
+    parts.reserve(1)?;
+    parts[part].upper_of(key)
+}
+
+/// Parts what a partition holds at a key: its upper half is put behind it. It takes no memory.
+#[tactic(auto, using(crate::proofs::SplitLaws::held_split))]
+fn install_halves(parts: &mut Vec<Changes>, part: usize, key: &KeyBytes, upper: Changes)
+    requires part { part < length parts.old.items }
+    requires room { length parts.old.items < vec_capacity parts.old }
+    requires upper { held_in upper ≡ upper_at part key.now (map held_in parts.old.items) }
+    ensures { map held_in parts.new.items ≡ parted_at part key.now (map held_in parts.old.items) }
+{
+    match parts.insert(part + 1, upper) {
+        Ok(()) => parts[part].keep_below(key),
+        Err(_) => unreachable!(),
     }
 }
 

@@ -1,3 +1,4 @@
+pub mod Copies
 pub mod Lists
 pub mod Names
 pub mod Puts

@@ -1,17 +1,16 @@
 -- Each change stands under its key and its timestamp, also after a call.
-use Rattle.std.proofs.Common.{◌≡◌, ℕ, List, [], ◌∷◌, ◌++◌, refl, sym, ap, subst, ◌∙◌, true, false, Ordering, Less, Equal, Greater}
+use Rattle.std.proofs.Common.{◌≡◌, ℕ, List, [], ◌∷◌, refl, sym, subst, ◌∙◌, true, false, Ordering, Less, Equal, Greater}
 use Rattle.std.specs.Prelude.{Bool, OnErr, OnOk, Result, Some, cond}
 use Rattle.std.specs.List.{AllByRecursion}
 use Rattle.std.specs.Map.{lookup, remove_entry, set_value}
 use Rattle.std.specs.BTreeMap.{insert_entry}
 use Rattle.std.specs.Ordering.{match_ordering, nat_cmp}
-use Rattle.std.specs.declared.cmp.Reverse.{Reverse}
 use Rattle.lt_terms.specs.Key.{bytes_cmp, same_key}
 use Rattle.lt_terms.specs.Log.{change_key}
 use Rattle.lt_lemmas.proofs.MergeLaws.{same-key}
 use Rattle.lt_records.specs.View.{view_change}
 use Rattle.lt_records.specs.declared.record.ChangeRecord.{ChangeRecord}
-use Rattle.lt_pending.specs.Stamps.{AreNamed, IsNamed, Stamps, change_at, later, stamped}
+use Rattle.lt_pending.specs.Stamps.{AreNamed, IsNamed, Stamps, later, stamped}
 use Rattle.lt_pending.proofs.Puts.{Held, Named, Stamped, key-equal, on-each, some-is, stamp-equal}
 
 -- ---- of the changes of one key

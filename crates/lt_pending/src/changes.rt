@@ -9,7 +9,7 @@ ghost use Rattle.lt_tables.specs.Pump.{put_change, without_change};
 ghost use Rattle.lt_records.specs.View.{view_change};
 ghost use Rattle.lt_pending.specs.Stamps.{AreNamed, changes_in};
 
-use crate::keys::{Keys, count_in, drop_bare, put_in, take_from};
+use crate::keys::{Keys, copy_from, count_in, drop_bare, drop_from, put_in, take_from};
 use crate::stamps::list_stamps;
 use lt_core::{KeyBytes, Memory, Ts};
 use lt_records::ChangeRecord;
@@ -71,18 +71,23 @@ impl Changes {
         }
     }
 
-    /// Parts the changes: those below a key stay, and the others are answered. An `Err` changes nothing.
-    pub fn split_off(&mut self, key: &KeyBytes) -> Result<Changes, Memory>
-        ensures upper { IfOk result (λ upper. held_in upper ≡ filter (λ c. not (below (change_key c) key.now))
-            (held_in self.old)) }
-        ensures lower { OnOk result (held_in self.new ≡ filter (λ c. below (change_key c) key.now) (held_in self.old)) }
-        ensures err { OnErr result (held_in self.new ≡ held_in self.old) }
+    /// A copy of the changes from a key on.
+    pub fn upper_of(&self, key: &KeyBytes) -> Result<Changes, Memory>
+        ensures { IfOk result (λ upper. held_in upper ≡ filter (λ c. not (below (change_key c) key.now))
+            (held_in self.now)) }
+    {
+        let _held = self.count;
+        let keys = copy_from(&self.keys, key)?;
+        let count = count_in(&keys);
+        Ok(Changes { keys, count })
+    }
+
+    /// Lets the changes go that do not stand below a key. It takes no memory.
+    pub fn keep_below(&mut self, key: &KeyBytes)
+        ensures { held_in self.new ≡ filter (λ c. below (change_key c) key.now) (held_in self.old) }
     {
         let held = self.count;
-        let keys = self.keys.split_off(key)?;
-        let count = count_in(&keys);
-        self.count = held - count;
-        Ok(Changes { keys, count })
+        self.count = held - drop_from(&mut self.keys, key);
     }
 
     /// Adds each change to a list, by falling key and rising timestamp. After an `Err` the list is some list.
@@ -95,18 +100,4 @@ impl Changes {
         }
         Ok(())
     }
-}
-
-/// A copy equals what it copies.
-pub fn copy_change(change: &ChangeRecord) -> Result<ChangeRecord, Memory>
-    ensures { IfOk result (λ copy. copy ≡ change.now) }
-{
-    Ok(ChangeRecord {
-        ts: change.ts,
-        table: change.table,
-        version: change.version,
-        op: change.op,
-        key: change.key.copy()?,
-        set: change.set.copy()?,
-    })
 }

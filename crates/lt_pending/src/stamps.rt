@@ -17,6 +17,20 @@ use std::collections::BTreeMap;
 /// The changes of one key, each under its timestamp.
 pub(crate) type Stamps = BTreeMap<Reverse<Ts>, ChangeRecord, Global>;
 
+/// A copy equals what it copies.
+pub fn copy_change(change: &ChangeRecord) -> Result<ChangeRecord, Memory>
+    ensures { IfOk result (λ copy. copy ≡ change.now) }
+{
+    Ok(ChangeRecord {
+        ts: change.ts,
+        table: change.table,
+        version: change.version,
+        op: change.op,
+        key: change.key.copy()?,
+        set: change.set.copy()?,
+    })
+}
+
 /// Puts a change in its place, instead of one of the same timestamp. An `Err` changes nothing.
 pub(crate) fn put_stamp(stamps: &mut Stamps, change: ChangeRecord) -> Result<(), Memory>
     ensures ok { OnOk result (stamps.new.entries ≡ insert_entry later stamps.old.entries (stamped change.ts) change) }
@@ -33,6 +47,17 @@ pub(crate) fn one_stamp(alloc: Global, change: ChangeRecord) -> Result<Stamps, M
     let mut stamps = BTreeMap::new(alloc);
     put_stamp(&mut stamps, change)?;
     Ok(stamps)
+}
+
+/// A copy of the changes of a key.
+pub(crate) fn copy_stamps(alloc: Global, stamps: &Stamps) -> Result<Stamps, Memory>
+    ensures { IfOk result (λ copies. copies.entries ≡ stamps.now.entries) }
+{
+    let mut copies = BTreeMap::new(alloc);
+    for (ts, change) in stamps.iter() {
+        copies.insert(*ts, copy_change(change)?)?;
+    }
+    Ok(copies)
 }
 
 /// Takes out the change of a timestamp, and answers whether it was there.

@@ -131,7 +131,8 @@ fn told_splits(alloc: Global) -> Result<String, Memory> {
     for number in [5, 6, -1, 7] {
         let key = key(alloc, number)?;
         let mut lower = three_keys(alloc)?;
-        let upper = lower.split_off(&key)?;
+        let upper = lower.upper_of(&key)?;
+        lower.keep_below(&key);
         tell(alloc, &lower, &mut told)?;
         tell(alloc, &upper, &mut told)?;
     }
@@ -139,7 +140,7 @@ fn told_splits(alloc: Global) -> Result<String, Memory> {
 }
 
 #[test]
-fn the_changes_from_a_key_on_move(rt: HostRuntime) -> Result<(), Fail> {
+fn the_changes_from_a_key_on_are_copied_and_let_go(rt: HostRuntime) -> Result<(), Fail> {
     let told = told_splits(rt.alloc())?;
     assert_eq!(rt; told.as_str(), SPLITS);
     Ok(())

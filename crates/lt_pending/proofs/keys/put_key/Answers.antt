@@ -1,5 +1,5 @@
-use Rattle.std.proofs.Common.{List, ap, refl, subst, sym, ◌∙◌, ◌∷◌, []}
-use Rattle.lt_pending.specs.Stamps.{AreNamed, Stamps, changes_in}
+use Rattle.std.proofs.Common.{List, ap, refl, subst, sym, ◌∙◌}
+use Rattle.lt_pending.specs.Stamps.{AreNamed, changes_in}
 use Rattle.lt_pending.proofs.Names.{new-named}
 use Rattle.lt_pending.proofs.Puts.{Held, Named, Stamped, put-new-at}
 use Rattle.lt_pending.proofs.keys.put_key.Goals as goal

@@ -1,4 +1,4 @@
-use Rattle.std.proofs.Common.{arith, eq-eqb, ne_eqb, refl, ◌+◌, ◌-◌, ◌∙◌, ◌≡◌}
+use Rattle.std.proofs.Common.{List, ap, arith, eq-eqb, ne_eqb, refl, ◌+◌, ◌-◌, ◌∙◌, ◌≡◌}
 use Rattle.std.specs.Prelude.{map}
 use Rattle.std.proofs.lemmas.List.{length-map}
 use Rattle.lt_tables.specs.Pump.{part_of}
@@ -7,10 +7,11 @@ use Rattle.lt_tables.specs.Query.{do_split}
 use Rattle.lt_storage.specs.Store.{part_ranges}
 use Rattle.lt_parts.specs.Parts.{ranges}
 use Rattle.lt_pending.specs.Held.{held_in}
+use Rattle.lt_pending.specs.declared.changes.Changes.{Changes}
 use Rattle.lt_pred.specs.View.{view_literals}
 use Rattle.lt_pump.specs.Pumps.{streams_of}
 use Rattle.lt_steps.specs.Memory.{split_memory}
-use Rattle.lt_engine.specs.Splitting.{IsSplitKey, named_key_fault, parts_fault}
+use Rattle.lt_engine.specs.Splitting.{IsSplitKey, named_key_fault, parted_at, parts_fault}
 use Rattle.lt_engine.specs.State.{memory_of, part_of_entry, state_of}
 use Rattle.lt_engine.specs.Steps.{Refuses, Stays}
 use Rattle.lt_engine.proofs.Results.{err_is, refuses_to}
@@ -51,9 +52,10 @@ invariant_of-self-2 c =
     let s = c.args.self.now in
     let key = c.in_ok-key.key in
     let upper = c.in_ok-map.upper in
+    let held : map held_in c.install_halves.new.parts.items ≡ parted_at (upper - 1) key (memory_of s) = c.install_halves.ensures ∙ ap (λ (xs : List Changes). parted_at (upper - 1) key (map held_in xs)) c.upper_half.ensures.held in
     record {
-      as_many = still_as_many s.map c.in_ok-map.map c.settle.new.map s.parts.items c.split_held.new.parts.items upper key s.as_many c.in_ok-map.ensures.split c.settle.ensures.parts c.in_ok-split_held.ensures.ok;
-      behind = behind_parted (streams_of s.pump) (upper - 1) key (memory_of s) (map held_in c.split_held.new.parts.items) c.in_ok-split_held.ensures.ok s.behind;
+      as_many = still_as_many s.map c.in_ok-map.map c.settle.new.map s.parts.items c.install_halves.new.parts.items upper key s.as_many c.in_ok-map.ensures.split c.settle.ensures.parts held;
+      behind = behind_parted (streams_of s.pump) (upper - 1) key (memory_of s) (map held_in c.install_halves.new.parts.items) held s.behind;
       settled = c.settle.ensures.settled;
     }
 
@@ -66,14 +68,15 @@ returns-clause-done c =
     let ss = streams_of s.pump in
     let now = c.settle.new.map in
     let mem = memory_of s in
-    let after = map held_in c.split_held.new.parts.items in
+    let after = map held_in c.install_halves.new.parts.items in
     let key = c.in_ok-key.key in
     let upper = c.in_ok-map.upper in
+    let held : after ≡ parted_at (upper - 1) key mem = c.install_halves.ensures ∙ ap (λ (xs : List Changes). parted_at (upper - 1) key (map held_in xs)) c.upper_half.ensures.held in
     let k : IsSplitKey s.catalogue name ls key = c.in_ok-key.ensures.key in
     let part : upper ≡ part_of (ranges es) key + 1 = c.in_ok-map.ensures.part in
     let place : upper - 1 ≡ part_of (ranges es) key = omega (arith, part) in
     let parts : map part_of_entry now ≡ split_parts key (map part_of_entry es) (part_ranges (map part_of_entry es)) = c.settle.ensures.parts ∙ parts_split es c.in_ok-map.map key upper c.in_ok-map.ensures.split part in
-    let memory : after ≡ split_memory key mem (part_ranges (map part_of_entry es)) = memory_split es key mem after (upper - 1) (length-map s.parts.items held_in ∙ s.as_many) place c.in_ok-split_held.ensures.ok in
+    let memory : after ≡ split_memory key mem (part_ranges (map part_of_entry es)) = memory_split es key mem after (upper - 1) (length-map s.parts.items held_in ∙ s.as_many) place held in
     record {
       table = k.table;
       named = k.named;

@@ -1,4 +1,4 @@
-use Rattle.std.proofs.Common.{ap, arith, length, sym, ◌+◌, ◌∙◌, ◌≡◌}
+use Rattle.std.proofs.Common.{ap, length, sym, ◌+◌, ◌∙◌, ◌≡◌}
 use Rattle.lt_records.specs.View.{view_change}
 use Rattle.lt_pending.specs.Stamps.{changes_in}
 use Rattle.lt_pending.proofs.Puts.{put-length}
