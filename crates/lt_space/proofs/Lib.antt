@@ -1,6 +1,5 @@
 pub mod Orders
 pub mod Sorting
-pub mod GapLaws
+pub mod Spots
 pub mod Overlaps
 pub mod Permuted
-pub mod Taking

@@ -91,19 +91,9 @@ pub sorted_by_key : (xs : List Extent) → IsSortedByKey key_of pair_cmp xs → 
 sorted_by_key xs sorted i j d le within =
     sym (same_test (get_or xs j d) (get_or xs i d)) ∙ sorted_far (λ a b. is_lt (pair_cmp (key_of a) (key_of b))) (ranks_by pair_total key_of) xs sorted i j d le within
 
--- ---- where an extent is found
+-- ---- neither before the other
 
-pub parted : (xs : List Extent) (e : Extent) → AreSorted xs → IsPartitionedBy (λ x. stands_before x e) xs
-parted xs e sorted i j d le within is =
-    before_from (get_or xs i d) e (chain (get_or xs i d) (get_or xs j d) (not_before (get_or xs i d) (get_or xs j d) (sorted i j d le within)) (before_parts (get_or xs j d) e is))
-  where
-    chain : (a b : Extent) → NotBehind a b → Before b e → Before a e
-    chain a b (inl p) (inl q) = inl (omega (arith, p, q))
-    chain a b (inl p) (inr q) = inl (omega (arith, p, q.0))
-    chain a b (inr p) (inl q) = inl (omega (arith, p.0, q))
-    chain a b (inr p) (inr q) = inr (p.0 ∙ q.0, omega (arith, p.1, q.1))
-
-same_extent : (a b : Extent) → NotBehind a b → NotBehind b a → a ≡ b
+pub same_extent : (a b : Extent) → NotBehind a b → NotBehind b a → a ≡ b
 same_extent a b p q = ap₂ (λ place len. record { place = place; length = len }) (places p q) (lengths p q)
   where
     places : NotBehind a b → NotBehind b a → a.place ≡ b.place
@@ -116,18 +106,3 @@ same_extent a b p q = ap₂ (λ place len. record { place = place; length = len 
     lengths (inl p) (inr q) = absurd (omega (arith, p, q.0))
     lengths (inr p) (inl q) = absurd (omega (arith, p.0, q))
     lengths (inr p) (inr q) = omega (arith, p.1, q.1)
-
-pub record IsFoundAt (xs : List Extent) (e : Extent) (i : ℕ) : Type 0 where
-  pub within : i < length xs
-  pub here : (d : Extent) → get_or xs i d ≡ e
-
-pub found_at : (xs : List Extent) (e : Extent) (i : ℕ) → AreSorted xs → Contains xs e → IsPartitionPoint (λ x. stands_before x e ≡ true) (λ x. stands_before x e ≡ false) xs i → IsFoundAt xs e i
-found_at xs e i sorted (k, within, here) (before, behind) =
-    let le : i ≤ k = elim (cases_lt k i) [
-      | inl less ↦ absurd (both_ways (stands_before e e) (not_before_from e e (inr (refl, omega arith))) (subst (λ x. stands_before x e ≡ true) here (before k e (omega arith) less)))
-      | inr more ↦ more
-    ] in
-    let inside : i < length xs = omega (arith, le, within) in record {
-      within = inside;
-      here = λ d. get_or_default xs i d e inside ∙ same_extent (get_or xs i e) e (not_before (get_or xs i e) e (subst (λ x. stands_before x (get_or xs i e) ≡ false) here (sorted i k e le within))) (not_before e (get_or xs i e) (behind i e (omega arith) inside));
-    }
