@@ -12,6 +12,7 @@ use Rattle.std.specs.BTreeMap.Range.{range_contains}
 use Rattle.std.specs.BTreeSet.{IsKeyInRange, insert_key}
 use Rattle.std.specs.Set.{remove_key}
 use Rattle.std.proofs.lemmas.Bool.{and_parts, both_ways, cases_lt, cases_order, le-leb, leb-true, lt-leb, or_cases}
+use Rattle.std.proofs.lemmas.List.Elements.{Contains-append_right}
 use Rattle.std.proofs.lemmas.List.Folds.{list_any_at}
 use Rattle.std.proofs.lemmas.List.{drop_more, get_or-map, length-map, map-append, take-append-drop, take_more}
 use Rattle.lt_terms.specs.declared.Extent.{Extent}
@@ -240,3 +241,9 @@ removed_first ks new e k r rest contains from is left =
     let no_later : NotBehind (extent_at k) e = subst (NotBehind (extent_at k)) spot.1.here (not_greater k q least) in
     let same : extent_at k ≡ e = same_extent (extent_at k) e no_later (not_greater (e.place, e.length, 0) k first.0.0) in
     subst (λ l. Adds e (map extent_at l) (map extent_at ks)) (sym left) (subst (λ x. Adds x (map extent_at (remove_key (is_at (spot_cmp k)) ks)) (map extent_at ks)) same (removed k ks first.1))
+
+pub adds_has : (e : Extent) (old new : List Extent) → Adds e old new → Contains new e
+adds_has e old new a = subst (λ l. Contains l e) (sym a.are) (Contains-append_right a.before (e ∷ a.after) e (0, omega arith, refl))
+
+pub has_spot : (ks : List Spot) (k : Spot) (e : Extent) → list_any (is_at (spot_cmp k)) ks ≡ true → e ≡ extent_at k → Contains (map extent_at ks) e
+has_spot ks k e among is = subst (Contains (map extent_at ks)) (sym is) (adds_has (extent_at k) _ _ (removed k ks among))

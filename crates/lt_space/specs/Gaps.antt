@@ -11,6 +11,11 @@ pub record HasPassed (limit : ℕ) (taken : List Extent) (p : Passed) : Type 0 w
   pub sides : (e : Extent) → Contains taken e → (end_of e ≤ p.end) ⊎ (p.end ≤ e.place)
   pub gaps : (e : Extent) → IsTrue (is_gap limit taken e) → e.place < p.end → e.length ≤ p.longest
 
+-- a search came to the end of a taken extent that stands before a place and was passed, or only to the first one
+pub record IsBackTo (taken : List Extent) (place : ℕ) (old new : Passed) : Type 0 where
+  pub end : (new.end ≡ 1024) ⊎ ((e : Extent) × Contains taken e × (e.place < place) × (e.place < old.end) × (new.end ≡ end_of e))
+  pub longest : new.longest ≡ old.longest
+
 -- a gap of a length begins there, and none begins before
 pub record IsFirstGap (limit : ℕ) (taken : List Extent) (len place : ℕ) : Type 0 where
   pub free : IsTrue (is_gap limit taken (record { place = place; length = len }))

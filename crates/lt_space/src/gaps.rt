@@ -1,10 +1,10 @@
 //! The gaps between extents that stand in order of their places. A search takes time linear in the extents that it passes.
 
-ghost use Rattle.std.specs.Prelude.{◌≡◌, ◌-◌, ◌<◌, ◌≤◌, ◌^◌, ℕ, List, max, IfSome, IfNone};
+ghost use Rattle.std.specs.Prelude.{◌≡◌, ◌-◌, ◌<◌, ◌≤◌, ◌^◌, ℕ, List, Contains, max, IfSome, IfNone};
 ghost use Rattle.lt_terms.specs.declared.Extent.{Extent};
 ghost use Rattle.lt_world.specs.Extents.{end_of};
 ghost use Rattle.lt_space.specs.Order.{AreInOrder};
-ghost use Rattle.lt_space.specs.Gaps.{IsFirstGap, IsKept, IsLongestGap, HasNoGap};
+ghost use Rattle.lt_space.specs.Gaps.{IsBackTo, IsFirstGap, IsKept, IsLongestGap, HasNoGap};
 
 use crate::FIRST;
 use crate::taken::{Taken, extent_at};
@@ -31,6 +31,21 @@ impl Passed {
         ensures longer { result.longest < len }
     {
         if self.longest < len { self } else { NONE }
+    }
+
+    /// What is passed up to an extent that stands before a place, or up to the first one.
+    pub fn back_to(self, taken: &Taken, place: u64) -> Passed
+        requires { (e : Extent) → Contains taken.now e → end_of e < 2 ^ 64 }
+        ensures { IsBackTo taken.now place self result }
+    {
+        let end = match taken.last_before(place.min(self.end)) {
+            Some(extent) => extent.place + extent.length,
+            None => FIRST,
+        };
+        Passed {
+            end,
+            longest: self.longest,
+        }
     }
 
     /// One extent more.

@@ -102,6 +102,6 @@ impl Space {
         ensures undoes { (before : Extents) → 0 < extent.length → Takes extent before self.old → self.new ≡ before }
     {
         self.taken.remove(extent);
-        self.passed = NONE;
+        self.passed = self.passed.back_to(&self.taken, extent.place);
     }
 }

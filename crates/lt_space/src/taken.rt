@@ -54,6 +54,15 @@ impl Taken {
         self.spots.range((place, 0, 0)..)
     }
 
+    /// One that begins before a place: the last of them, so that a search from there passes few.
+    pub fn last_before(&self, place: u64) -> Option<Extent>
+        ensures taken { IfSome result (Contains self.now) }
+        ensures before { IfSome result (λ e. e.place < place) }
+    {
+        let spot = self.spots.range(..(place, 0, 0)).next_back()?;
+        Some(extent_at(spot))
+    }
+
     /// Takes one that meets no other. An `Err` changes nothing.
     pub fn insert(&mut self, extent: Extent) -> Result<(), SpaceRefusal>
         requires some { 0 < extent.length }
