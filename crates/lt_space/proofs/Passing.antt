@@ -1,14 +1,14 @@
 -- What a search for gaps has passed, and what it finds.
-use Rattle.std.proofs.Common.{Bool, List, [], ap, arith, cond, false, filter, get_or, inl, inr, length, map, max, refl, subst, suc, sym, true, zero, ℕ, ◌+◌, ◌-◌, ◌<◌, ◌∙◌, ◌∷◌, ◌≡◌, ◌≤◌, ◌⊎◌}
+use Rattle.std.proofs.Common.{Bool, List, [], ap, arith, cond, false, filter, inl, inr, map, max, refl, subst, suc, sym, true, zero, ℕ, ◌+◌, ◌-◌, ◌<◌, ◌∙◌, ◌∷◌, ◌≡◌, ◌≤◌, ◌⊎◌}
 use Rattle.std.specs.Prelude.{Contains, IsTrue, nat_le}
 use Rattle.std.specs.List.{All, list_all}
-use Rattle.std.proofs.lemmas.Bool.{and_from, both_ways, cases_lt, cases_order, le-leb, leb-true}
+use Rattle.std.proofs.lemmas.Bool.{and_from, both_ways, cases_lt, le-leb, leb-true}
 use Rattle.std.proofs.lemmas.List.Elements.{All-contains, All-contains_itself, All-filter, All-head, filter_passes}
 use Rattle.lt_terms.specs.declared.Extent.{Extent}
 use Rattle.lt_world.specs.Extents.{apart, end_of, is_gap}
 use Rattle.lt_space.specs.declared.gaps.Passed.{Passed}
 use Rattle.lt_space.specs.Order.{AreInOrder, end_after}
-use Rattle.lt_space.specs.Gaps.{HasNoGap, HasPassed, IsFirstGap, IsKept, IsLongestGap, IsReached}
+use Rattle.lt_space.specs.Gaps.{HasNoGap, IsFirstGap, IsKept, IsLongestGap, IsReached}
 use Rattle.lt_space.specs.Taken.{extent_at}
 use Rattle.lt_space.proofs.Orders.{StandsAt, all_at_place, free_gap, gap_free, gap_sides, order_at, order_behind}
 use Rattle.lt_space.proofs.Overlaps.{apart_by}

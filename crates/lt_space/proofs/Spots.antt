@@ -138,9 +138,6 @@ first_more limit sorted i d ks order within first =
 adds_cons : (e x : Extent) (old new : List Extent) → Adds e old new → Adds e (x ∷ old) (x ∷ new)
 adds_cons e x old new a = record { before = x ∷ a.before; after = a.after; were = ap (λ l. x ∷ l) a.were; are = ap (λ l. x ∷ l) a.are }
 
-spot_of : Extent → Spot
-spot_of e = (e.place, e.length, 0)
-
 pub record IsInserted (e : Extent) (old new : List Extent) : Type 0 where
   pub adds : Adds e old new
   pub order : (from limit : ℕ) → AreInOrder from limit old → from ≤ e.place → end_of e ≤ limit → AreInOrder from limit new

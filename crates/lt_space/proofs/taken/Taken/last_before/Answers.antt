@@ -1,4 +1,4 @@
-use Rattle.std.proofs.Common.{subst, sym}
+use Rattle.std.proofs.Common.{subst}
 use Rattle.std.specs.Prelude.{Contains}
 use Rattle.lt_space.proofs.Spots.{has_spot}
 use Rattle.lt_space.proofs.taken.Taken.last_before.Goals as goal

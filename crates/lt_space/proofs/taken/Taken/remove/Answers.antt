@@ -2,7 +2,6 @@ use Rattle.std.proofs.Common.{map, subst, sym}
 use Rattle.std.specs.Prelude.{Contains}
 use Rattle.std.proofs.lemmas.Bool.{both_ways}
 use Rattle.std.specs.BTreeSet.{contains}
-use Rattle.lt_terms.specs.declared.Extent.{Extent}
 use Rattle.lt_space.specs.Taken.{Adds, extent_at}
 use Rattle.lt_space.proofs.Spots.{removed_first, spot_cmp, spot_in}
 use Rattle.lt_space.proofs.taken.Taken.remove.Goals as goal
