@@ -1,6 +1,7 @@
 pub mod Orders
 pub mod Sorting
-pub mod GapLaws
+pub mod Spots
 pub mod Overlaps
+pub mod Passing
 pub mod Permuted
 pub mod Taking

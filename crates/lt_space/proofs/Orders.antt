@@ -1,9 +1,8 @@
 -- Extents in order of their places, apart, and what a gap beside them is.
-use Rattle.std.proofs.Common.{Bool, List, [], arith, get_or, inl, inr, length, refl, true, zero, suc, ℕ, ◌++◌, ◌<◌, ◌∙◌, ◌∷◌, ◌≡◌, ◌≤◌, ◌⊎◌}
+use Rattle.std.proofs.Common.{Bool, List, [], arith, get_or, inl, inr, length, refl, true, zero, suc, ℕ, ◌++◌, ◌<◌, ◌∷◌, ◌≡◌, ◌≤◌, ◌⊎◌}
 use Rattle.std.specs.Prelude.{IsTrue, nat_le, ◌&&◌}
 use Rattle.std.specs.List.{list_all}
-use Rattle.std.proofs.lemmas.Bool.{and_from, and_parts, le-leb, leb-true, or_cases, or_left, or_right}
-use Rattle.std.proofs.lemmas.List.Folds.{list_all-append}
+use Rattle.std.proofs.lemmas.Bool.{and_from, and_parts, le-leb, leb-true, or_cases, or_left}
 use Rattle.lt_terms.specs.declared.Extent.{Extent}
 use Rattle.lt_world.specs.Extents.{apart, are_apart, end_of, is_gap}
 use Rattle.lt_space.specs.Order.{AreInOrder, end_after}
@@ -54,13 +53,6 @@ order_pair from limit (x ∷ xs) (suc i) (suc j) d o less within = order_pair (e
 
 -- ---- apart from those before and from those behind
 
-pub apart_behind : (from limit : ℕ) (xs : List Extent) (g : Extent) → AreInOrder from limit xs → end_after from xs ≤ g.place → list_all (apart g) xs ≡ true
-apart_behind from limit [] g o le = refl
-apart_behind from limit (x ∷ xs) g o le =
-    and_from (apart g x) (list_all (apart g) xs)
-    (or_right (nat_le (end_of g) x.place) (nat_le (end_of x) g.place) (le-leb (end_of x) g.place (omega (arith, ends_rise (end_of x) limit xs o.2, le))))
-    (apart_behind (end_of x) limit xs g o.2 le)
-
 pub apart_before : (from limit : ℕ) (xs : List Extent) (g : Extent) → AreInOrder from limit xs → end_of g ≤ from → list_all (apart g) xs ≡ true
 apart_before from limit [] g o le = refl
 apart_before from limit (x ∷ xs) g o le =
@@ -95,15 +87,6 @@ pub gap_free : (limit : ℕ) (taken : List Extent) (g : Extent) → IsFree limit
 gap_free limit taken g f =
     and_from (nat_le 1024 g.place && nat_le (end_of g) limit) (list_all (apart g) taken)
     (and_from (nat_le 1024 g.place) (nat_le (end_of g) limit) (le-leb 1024 g.place f.behind_slots) (le-leb (end_of g) limit f.below_limit)) f.apart_from
-
--- between two neighbours
-pub gap_between : (limit : ℕ) (xs ys : List Extent) (g : Extent) → AreInOrder 1024 limit xs → end_after 1024 xs ≤ g.place → end_of g ≤ limit → AreInOrder (end_of g) limit ys → IsTrue (is_gap limit (xs ++ ys) g)
-gap_between limit xs ys g o behind below p =
-    gap_free limit (xs ++ ys) g (record {
-      behind_slots = omega (arith, ends_rise 1024 limit xs o, behind);
-      below_limit = below;
-      apart_from = list_all-append (apart g) xs ys ∙ and_from (list_all (apart g) xs) (list_all (apart g) ys) (apart_behind 1024 limit xs g o behind) (apart_before (end_of g) limit ys g p (omega arith));
-    })
 
 -- a gap ends before a taken extent begins, or begins behind its end
 pub gap_sides : (limit : ℕ) (taken : List Extent) (g x : Extent) → IsFree limit taken g → apart g x ≡ true → (end_of g ≤ x.place) ⊎ (end_of x ≤ g.place)

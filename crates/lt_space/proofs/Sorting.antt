@@ -1,20 +1,17 @@
 -- The order by place and length: what a sort leaves, and where an extent is found.
-use Rattle.std.proofs.Common.{Bool, List, ap, ap₂, arith, cond, eqb-true, false, get_or, inl, inr, length, refl, subst, sym, true, ℕ, ◌<◌, ◌∙◌, ◌≡◌, ◌≤◌, ◌⊎◌}
-use Rattle.std.specs.Prelude.{Contains, nat_lt, ◌&&◌, ◌==◌, ◌||◌}
+use Rattle.std.proofs.Common.{Bool, List, ap₂, arith, cond, false, get_or, inl, inr, length, refl, sym, true, ℕ, ◌<◌, ◌∙◌, ◌≡◌, ◌≤◌, ◌⊎◌}
+use Rattle.std.specs.Prelude.{nat_lt, ◌&&◌, ◌==◌, ◌||◌}
 use Rattle.std.specs.declared.cmp.Ordering.{Ordering}
 use Rattle.std.specs.declared.cmp.Ordering.TheVariants.{Equal, Greater, Less}
 use Rattle.std.specs.Ordering.{is_lt, nat_cmp, ordering_then}
 use Rattle.std.specs.Cmp.{IsTotalOrder}
-use Rattle.std.specs.List.Sorted.{IsPartitionPoint, IsPartitionedBy, IsSortedByKey}
-use Rattle.std.proofs.lemmas.Bool.{and_from, and_left, and_parts, and_right, both_ways, cases_lt, cases_order, eq-eqb, le-ltb, lt-ltb, ltb-true, ne_eqb, or_cases, or_from, or_left, or_right}
+use Rattle.std.specs.List.Sorted.{IsSortedByKey}
+use Rattle.std.proofs.lemmas.Bool.{and_from, both_ways, cases_lt, cases_order, eq-eqb, lt-ltb, or_left, or_right}
 use Rattle.std.proofs.lemmas.Cmp.{nat_cmp_total, on_total, then_total}
-use Rattle.std.proofs.lemmas.List.{get_or_default}
 use Rattle.std.proofs.lemmas.List.MinMax.{ranks_by}
 use Rattle.std.proofs.lemmas.List.Sorted.{sorted_far}
 use Rattle.lt_terms.specs.declared.Extent.{Extent}
-use Rattle.lt_world.specs.Extents.{end_of}
-use Rattle.lt_space.specs.Order.{AreInOrder, AreSorted, stands_before}
-use Rattle.lt_space.proofs.Orders.{order_pair}
+use Rattle.lt_space.specs.Order.{AreSorted, stands_before}
 
 -- ---- one before another
 
@@ -30,12 +27,6 @@ before_from a b (inl less) = or_left (nat_lt a.place b.place) (a.place == b.plac
 before_from a b (inr same) =
     or_right (nat_lt a.place b.place) (a.place == b.place && nat_lt a.length b.length) (and_from (a.place == b.place) (nat_lt a.length b.length) (eq-eqb a.place b.place same.0) (lt-ltb a.length b.length same.1))
 
-before_parts : (a b : Extent) → stands_before a b ≡ true → Before a b
-before_parts a b e = elim (or_cases (nat_lt a.place b.place) (a.place == b.place && nat_lt a.length b.length) e) [
-  | inl less ↦ inl (ltb-true a.place b.place less)
-  | inr same ↦ let both = and_parts (a.place == b.place) (nat_lt a.length b.length) same in inr (eqb-true a.place b.place both.0, ltb-true a.length b.length both.1)
-]
-
 pub not_before : (a b : Extent) → stands_before b a ≡ false → NotBehind a b
 not_before a b e = elim (cases_order a.place b.place) [
   | inl same ↦ elim (cases_lt b.length a.length) [ inl shorter ↦ absurd (both_ways (stands_before b a) e (before_from b a (inr (sym same, shorter)))) | inr longer ↦ inr (same, longer) ]
@@ -43,28 +34,10 @@ not_before a b e = elim (cases_order a.place b.place) [
   | inr (inr more) ↦ absurd (both_ways (stands_before b a) e (before_from b a (inl more)))
 ]
 
-not_before_from : (a b : Extent) → NotBehind a b → stands_before b a ≡ false
-not_before_from a b (inl less) =
-    or_from (nat_lt b.place a.place) (b.place == a.place && nat_lt b.length a.length) (le-ltb b.place a.place (omega (arith, less)))
-    (and_left (b.place == a.place) (nat_lt b.length a.length) (ne_eqb b.place a.place (λ e. omega (arith, less, e))))
-not_before_from a b (inr same) =
-    or_from (nat_lt b.place a.place) (b.place == a.place && nat_lt b.length a.length) (le-ltb b.place a.place (omega (arith, same.0)))
-    (and_right (b.place == a.place) (nat_lt b.length a.length) (le-ltb b.length a.length same.1))
-
 -- ---- sorted lists
 
 pub places_rise : (xs : List Extent) (i j : ℕ) (d : Extent) → AreSorted xs → i ≤ j → j < length xs → (get_or xs i d).place ≤ (get_or xs j d).place
 places_rise xs i j d sorted le within = elim (not_before (get_or xs i d) (get_or xs j d) (sorted i j d le within)) [ inl less ↦ omega (arith, less) | inr same ↦ omega (arith, same.0) ]
-
-pub sorted_in_order : (from limit : ℕ) (xs : List Extent) → AreInOrder from limit xs → AreSorted xs
-sorted_in_order from limit xs o i j d le within = not_before_from (get_or xs i d) (get_or xs j d) (elim (cases_order i j) [
-  | inl same ↦ inr (ap (λ n. (get_or xs n d).place) same, omega (arith, ap (λ n. (get_or xs n d).length) same))
-  | inr (inl less) ↦ apart_rise (get_or xs i d) (get_or xs j d) (order_pair from limit xs i j d o less within)
-  | inr (inr more) ↦ absurd (omega (arith, more, le))
-])
-  where
-    apart_rise : (a b : Extent) → end_of a ≤ b.place → NotBehind a b
-    apart_rise a b ends = elim (cases_lt a.place b.place) [ inl less ↦ inl less | inr more ↦ inr (omega (arith, ends, more), omega (arith, ends, more)) ]
 
 -- ---- after a sort by both numbers
 
@@ -91,19 +64,9 @@ pub sorted_by_key : (xs : List Extent) → IsSortedByKey key_of pair_cmp xs → 
 sorted_by_key xs sorted i j d le within =
     sym (same_test (get_or xs j d) (get_or xs i d)) ∙ sorted_far (λ a b. is_lt (pair_cmp (key_of a) (key_of b))) (ranks_by pair_total key_of) xs sorted i j d le within
 
--- ---- where an extent is found
+-- ---- neither before the other
 
-pub parted : (xs : List Extent) (e : Extent) → AreSorted xs → IsPartitionedBy (λ x. stands_before x e) xs
-parted xs e sorted i j d le within is =
-    before_from (get_or xs i d) e (chain (get_or xs i d) (get_or xs j d) (not_before (get_or xs i d) (get_or xs j d) (sorted i j d le within)) (before_parts (get_or xs j d) e is))
-  where
-    chain : (a b : Extent) → NotBehind a b → Before b e → Before a e
-    chain a b (inl p) (inl q) = inl (omega (arith, p, q))
-    chain a b (inl p) (inr q) = inl (omega (arith, p, q.0))
-    chain a b (inr p) (inl q) = inl (omega (arith, p.0, q))
-    chain a b (inr p) (inr q) = inr (p.0 ∙ q.0, omega (arith, p.1, q.1))
-
-same_extent : (a b : Extent) → NotBehind a b → NotBehind b a → a ≡ b
+pub same_extent : (a b : Extent) → NotBehind a b → NotBehind b a → a ≡ b
 same_extent a b p q = ap₂ (λ place len. record { place = place; length = len }) (places p q) (lengths p q)
   where
     places : NotBehind a b → NotBehind b a → a.place ≡ b.place
@@ -116,18 +79,3 @@ same_extent a b p q = ap₂ (λ place len. record { place = place; length = len 
     lengths (inl p) (inr q) = absurd (omega (arith, p, q.0))
     lengths (inr p) (inl q) = absurd (omega (arith, p.0, q))
     lengths (inr p) (inr q) = omega (arith, p.1, q.1)
-
-pub record IsFoundAt (xs : List Extent) (e : Extent) (i : ℕ) : Type 0 where
-  pub within : i < length xs
-  pub here : (d : Extent) → get_or xs i d ≡ e
-
-pub found_at : (xs : List Extent) (e : Extent) (i : ℕ) → AreSorted xs → Contains xs e → IsPartitionPoint (λ x. stands_before x e ≡ true) (λ x. stands_before x e ≡ false) xs i → IsFoundAt xs e i
-found_at xs e i sorted (k, within, here) (before, behind) =
-    let le : i ≤ k = elim (cases_lt k i) [
-      | inl less ↦ absurd (both_ways (stands_before e e) (not_before_from e e (inr (refl, omega arith))) (subst (λ x. stands_before x e ≡ true) here (before k e (omega arith) less)))
-      | inr more ↦ more
-    ] in
-    let inside : i < length xs = omega (arith, le, within) in record {
-      within = inside;
-      here = λ d. get_or_default xs i d e inside ∙ same_extent (get_or xs i e) e (not_before (get_or xs i e) e (subst (λ x. stands_before x (get_or xs i e) ≡ false) here (sorted i k e le within))) (not_before e (get_or xs i e) (behind i e (omega arith) inside));
-    }

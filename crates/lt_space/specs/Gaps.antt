@@ -1,15 +1,20 @@
 -- The gaps between extents that stand in order of their places.
-use Rattle.std.specs.Prelude.{IsTrue, List, length, take, ℕ, ◌<◌, ◌≡◌, ◌≤◌}
+use Rattle.std.specs.Prelude.{Contains, IsTrue, List, ℕ, ◌<◌, ◌≡◌, ◌≤◌, ◌⊎◌}
 use Rattle.lt_terms.specs.declared.Extent.{Extent}
-use Rattle.lt_world.specs.Extents.{is_gap}
-use Rattle.lt_space.specs.Order.{AreInOrder, end_after}
+use Rattle.lt_world.specs.Extents.{end_of, is_gap}
+use Rattle.lt_space.specs.Order.{AreInOrder}
 use Rattle.lt_space.specs.declared.gaps.Passed.{Passed}
 
--- so many extents were passed, and each gap that begins before the last of them ends has at most `longest`
+-- no extent stands on both sides of where the search came, and each gap that begins before has at most `longest`
 pub record HasPassed (limit : ℕ) (taken : List Extent) (p : Passed) : Type 0 where
-  pub within : p.count ≤ length taken
-  pub end : p.end ≡ end_after 1024 (take p.count taken)
+  pub behind_slots : 1024 ≤ p.end
+  pub sides : (e : Extent) → Contains taken e → (end_of e ≤ p.end) ⊎ (p.end ≤ e.place)
   pub gaps : (e : Extent) → IsTrue (is_gap limit taken e) → e.place < p.end → e.length ≤ p.longest
+
+-- a search came to the end of a taken extent that stands before a place and was passed, or only to the first one
+pub record IsBackTo (taken : List Extent) (place : ℕ) (old new : Passed) : Type 0 where
+  pub end : (new.end ≡ 1024) ⊎ ((e : Extent) × Contains taken e × (e.place < place) × (e.place < old.end) × (new.end ≡ end_of e))
+  pub longest : new.longest ≡ old.longest
 
 -- a gap of a length begins there, and none begins before
 pub record IsFirstGap (limit : ℕ) (taken : List Extent) (len place : ℕ) : Type 0 where

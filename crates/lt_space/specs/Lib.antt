@@ -1,3 +1,4 @@
 pub mod Order
 pub mod Extents
+pub mod Taken
 pub mod Gaps

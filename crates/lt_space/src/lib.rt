@@ -5,9 +5,9 @@
 
 mod gaps;
 mod misplaced;
-mod order;
 mod refusal;
 mod space;
+mod taken;
 
 pub use lt_terms::Extent;
 pub use refusal::SpaceRefusal;

@@ -12,8 +12,8 @@ ghost use Rattle.lt_space.specs.Extents.{AreApart, Extents, RefusesAll, RefusesO
 
 use crate::gaps::{NONE, Passed, longest_gap, lowest_gap};
 use crate::misplaced::first_misplaced;
-use crate::order::place_of;
 use crate::refusal::SpaceRefusal;
+use crate::taken::Taken;
 use lt_terms::Extent;
 use std::alloc::Global;
 use std::marker::Model;
@@ -22,7 +22,7 @@ use std::marker::Model;
 #[derive(Debug, Drop)]
 pub struct Space {
     limit: u64,
-    taken: Vec<Extent>,
+    taken: Taken,
     passed: Passed,
 }
 
@@ -32,9 +32,9 @@ impl Model for Space {
 
     ghost Value = { Extents };
 
-    ghost view = { λ s. record { limit = s.limit; taken = s.taken.items } };
+    ghost view = { λ s. record { limit = s.limit; taken = s.taken } };
 
-    ghost invariant = { λ s. IsKept s.limit s.taken.items s.passed };
+    ghost invariant = { λ s. IsKept s.limit s.taken s.passed };
 }
 
 impl Space {
@@ -46,11 +46,12 @@ impl Space {
         ensures live { OnOk result (IsTrue (are_apart limit live.now)) }
         ensures refused { IfErr result (RefusesAll limit live.now) }
     {
-        let mut taken = Vec::from_slice(alloc, live)?;
-        taken.sort_unstable_by_key(|extent| (extent.place, extent.length));
-        if let Some(place) = first_misplaced(&taken, limit) {
+        let mut sorted = Vec::from_slice(alloc, live)?;
+        sorted.sort_unstable_by_key(|extent| (extent.place, extent.length));
+        if let Some(place) = first_misplaced(&sorted, limit) {
             return Err(SpaceRefusal::Overlap { place });
         }
+        let taken = Taken::in_order(alloc, &sorted)?;
         Ok(Space {
             limit,
             taken,
@@ -84,9 +85,8 @@ impl Space {
             place: gap.end,
             length,
         };
-        self.taken.insert(gap.count, extent)?;
+        self.taken.insert(extent)?;
         self.passed = Passed {
-            count: gap.count + 1,
             end: gap.end + length,
             longest: gap.longest,
         };
@@ -101,8 +101,7 @@ impl Space {
         // It undoes the taking.
         ensures undoes { (before : Extents) → 0 < extent.length → Takes extent before self.old → self.new ≡ before }
     {
-        let place = place_of(&self.taken, &extent);
-        self.taken.remove(place);
-        self.passed = NONE;
+        self.taken.remove(extent);
+        self.passed = self.passed.back_to(&self.taken, extent.place);
     }
 }

@@ -1,10 +1,11 @@
-use Rattle.std.proofs.Common.{◌≡◌}
-use Rattle.lt_space.specs.Gaps.{HasPassed, IsReached}
+use Rattle.std.proofs.Common.{map}
+use Rattle.lt_space.specs.Gaps.{IsReached}
+use Rattle.lt_space.specs.Taken.{extent_at}
+use Rattle.lt_space.proofs.Passing.{IsAt}
 use Rattle.lt_space.proofs.gaps.longest_gap.Given as goal
 
-abbrev pub invariant-loop-extent : goal.invariant-loop-extent
-invariant-loop-extent l = record {
-  count : l.passed.count ≡ l.extent-index;
-  passed : HasPassed l.limit l.taken l.passed;
+abbrev pub invariant-loop-spot : goal.invariant-loop-spot
+invariant-loop-spot l = record {
+  at : IsAt l.limit l.taken (map extent_at l.spot-iterator) l.passed;
   reached : IsReached l.limit l.taken l.passed.longest;
 }
