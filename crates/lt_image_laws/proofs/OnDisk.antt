@@ -121,11 +121,13 @@ module _ {D : Type 0} (v : Device D) where
           let outside = told_outside (slot_place (1 - l.root.slot)) 512 (v.state old) (v.state new) seen there.0 tells there.1 reads in
           commit_laws.committed f s' l' made' seen c prepared (subst (λ n. StaysOutside (slot_place n) 512 seen c) (sym slot) (subst (λ image. StaysOutside (slot_place (1 - l.root.slot)) 512 seen image) (sym only) outside)) (root c left)
 
-      -- after a fault that was no write fault each image is of the session before
-      pub unwritten : LeavesNow (v.state new) (HasRoot l.root) → LeavesNow (v.state new) (IsRooted f s l made)
-      unwritten root c left =
-          let w = holds_now v old new (IsWithin (v.state old) (slot_place (1 - l.root.slot)) 512) images c left in
-          honest_stays.in_slot f s l made w.0 c (on w.0 w.1) apart w.2 (root c left)
+      -- where nothing of the root was written each image is of the session before, at each moment
+      pub unwritten : LeftOnly (v.state old) (v.state new) (HasRoot l.root) → LeftOnly (v.state old) (v.state new) (IsRooted f s l made)
+      unwritten root =
+          weaker v old new (Both (IsWithin (v.state old) (slot_place (1 - l.root.slot)) 512) (HasRoot l.root)) (IsRooted f s l made) (both old new (IsWithin (v.state old) (slot_place (1 - l.root.slot)) 512) (HasRoot l.root) images root) is
+        where
+          is : (c : List ℕ) → Both (IsWithin (v.state old) (slot_place (1 - l.root.slot)) 512) (HasRoot l.root) c → IsRooted f s l made c
+          is c h = honest_stays.in_slot f s l made h.one.0 c (on h.one.0 h.one.1) apart h.one.2 h.other
 
 -- ---- the root's commit as its clauses say it
 
@@ -185,8 +187,8 @@ module _ {D : Type 0} (v : Device D) (old new : D) (root : Root) (place len : �
         acknowledged v f s l made old new c.stands s' l' made' seen c.prepared c.apart own_images tells (ap (λ (r : Root). r.slot) c.to ∙ ap (λ (r : Root). 1 - r.slot) (sym c.from))
         (subst (λ r. ReadsWithin (slot_place (1 - r.slot)) 512 (v.state old) (v.state new)) (sym c.from) reads) stable (λ image left. subst (λ r. HasRoot r image) (sym c.to) (now image left))
 
-    pub after_fault : LeavesNow (v.state new) (HasRoot root) → LeavesNow (v.state new) (IsRooted f s l made)
-    after_fault still = unwritten v f s l made old new c.stands s' l' made' seen c.prepared c.apart own_images (λ image left. subst (λ r. HasRoot r image) (sym c.from) (still image left))
+    pub after_fault : LeftOnly (v.state old) (v.state new) (HasRoot root) → LeftOnly (v.state old) (v.state new) (IsRooted f s l made)
+    after_fault still = unwritten v f s l made old new c.stands s' l' made' seen c.prepared c.apart own_images (subst (λ r. LeftOnly (v.state old) (v.state new) (HasRoot r)) (sym c.from) still)
 
 -- ---- after a sync that succeeds
 

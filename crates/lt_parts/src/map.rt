@@ -52,6 +52,14 @@ impl PartMap {
         Ok(PartMap { entries })
     }
 
+    /// The partitions of these entries.
+    pub fn of(entries: Vec<PartEntry>) -> PartMap
+        requires { AreParts entries.items }
+        ensures { result ≡ entries.items }
+    {
+        PartMap { entries }
+    }
+
     /// How many partitions there are: from 1 to 1,024.
     pub fn len(&self) -> usize
         ensures count { result ≡ length self.now }

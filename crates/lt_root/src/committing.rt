@@ -41,7 +41,7 @@ pub fn try_commit<D: Disk>(
         → OnOk result (LeavesNow (D.state disk.new) (HasRoot (next_root root.old place length)))) }
     ensures unwritten { IfSome (D.state disk.old).told (λ seen. 1024 ≤ place → 0 < length
         → LeavesNow (D.state disk.old) (HasRoot root.old)
-        → IfErr result (λ e. e ≡ faults.Read → LeavesNow (D.state disk.new) (HasRoot root.old))) }
+        → IfErr result (λ e. e ≡ faults.Read → LeftOnly (D.state disk.old) (D.state disk.new) (HasRoot root.old))) }
     // After any fault, whatever the images were before: the old one still counts in each, or each has all that read before but in the other slot.
     ensures torn { OnErr result (KeepsRoot (D.state disk.old) (D.state disk.new) root.old place length
         ⊎ KeepsOthers (D.state disk.old) (D.state disk.new) root.old place length) }
@@ -95,7 +95,7 @@ pub fn commit<D: Disk>(
     ensures unwritten { IfSome (D.state disk.old).told (λ seen. 1024 ≤ place → 0 < length
         → LeavesNow (D.state disk.old) (HasRoot root.old)
         → OnErr result (Rose (D.state disk.old).write_faults (D.state disk.new).write_faults
-        ⊎ LeavesNow (D.state disk.new) (HasRoot root.old))) }
+        ⊎ LeftOnly (D.state disk.old) (D.state disk.new) (HasRoot root.old))) }
     // After any fault, whatever the images were before: the old one still counts in each, or each has all that read before but in the other slot.
     ensures torn { OnErr result (KeepsRoot (D.state disk.old) (D.state disk.new) root.old place length
         ⊎ KeepsOthers (D.state disk.old) (D.state disk.new) root.old place length) }

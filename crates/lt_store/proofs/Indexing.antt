@@ -57,6 +57,7 @@ pub record HasRead (old now : DiskState) (m : Manifest) (n : ℕ) (is : List Del
   pub faults : now.faults ≡ old.faults
   pub read : IfSome old.told (λ image. ReadsAll image m.catalogue (map view_delta (take n m.deltas)) (map view_index is))
   pub lawful : AllByRecursion IsLawful (map view_index is)
+  pub many : length is ≡ n
 
 reads_more : (image : List ℕ) (cat : Catalogue) (ds : List (ℕ × Extent)) (xs : List (List store.TableIndex)) (d : ℕ × Extent) (i : List store.TableIndex) → ReadsAll image cat ds xs → IsIndex i (bytes_in image d.1) → is_known_index cat i ≡ true
     → ReadsAll image cat (ds ++ d ∷ []) (xs ++ i ∷ [])

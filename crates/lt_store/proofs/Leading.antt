@@ -66,7 +66,7 @@ module _ {D : Type 0} (v : Device D) (old : D) (store : Store) (m : Manifest) (l
   nothing_done e whole = record {
     any_moment = begins v old (IsRootedOnEither g.feed g.before g.placing g.made g.after (placing_behind store.root g) g.made_after) (λ c left. inl (r.stands c left));
     acknowledged = tt;
-    refused = λ _. (r.stands, r.at);
+    refused = λ _. (begins v old (IsRooted g.feed g.before g.placing g.made) r.stands, r.at);
     broken = λ is. absurd (false≢true (sym whole ∙ is));
   }
 

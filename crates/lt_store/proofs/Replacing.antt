@@ -163,7 +163,7 @@ module _ {D : Type 0} (v : Device D) (old mid : D) (root : Root) (e : Extent) (b
           broken_whole v mid new root e.place e.length inside g.feed g.before g.after g.placing (placing_behind (next_root root e.place e.length) g) g.made g.made_after (with_bytes seen e.place bytes) is_commit moments
           (told_at (v.state mid).told (with_bytes seen e.place bytes) _ tells keeps may_commit.0 may_commit.1 may_commit.2))
 
-      pub replaced : (placed : Bool) → OnOk result (LeavesNow (v.state new) (HasRoot (next_root root e.place e.length))) → IfErr result (λ x. x ≡ faults.Read → LeavesNow (v.state new) (HasRoot root))
+      pub replaced : (placed : Bool) → OnOk result (LeavesNow (v.state new) (HasRoot (next_root root e.place e.length))) → IfErr result (λ x. x ≡ faults.Read → LeftOnly (v.state mid) (v.state new) (HasRoot root))
           → OnErr result (Side (KeepsRoot (v.state mid) (v.state new) root e.place e.length) (KeepsOthers (v.state mid) (v.state new) root e.place e.length) placed)
           → ReadsWithin (slot_place (1 - root.slot)) 512 (v.state mid) (v.state new) → OnOk result (IsStable (v.state new)) → Replaced (v.state old) (v.state new) (next_root root e.place e.length) placed g result
       replaced placed acknowledged unwritten torn others stable = record {
@@ -172,7 +172,7 @@ module _ {D : Type 0} (v : Device D) (old mid : D) (root : Root) (e : Extent) (b
             (λ c is. inl is) (λ c is. is);
         acknowledged = on_both result stable acknowledged (λ fixed now.
             after_ok v mid new root e.place e.length inside g.feed g.before g.after g.placing (placing_behind (next_root root e.place e.length) g) g.made g.made_after (with_bytes seen e.place bytes) is_commit tells others fixed now);
-        unwritten = on_fault (λ x. x ≡ faults.Read) result unwritten (λ still.
-            after_fault v mid new root e.place e.length inside g.feed g.before g.after g.placing (placing_behind (next_root root e.place e.length) g) g.made g.made_after (with_bytes seen e.place bytes) is_commit still);
+        unwritten = on_fault (λ x. x ≡ faults.Read) result unwritten (λ still. joined v old mid new Before Before Before before_stands
+            (after_fault v mid new root e.place e.length inside g.feed g.before g.after g.placing (placing_behind (next_root root e.place e.length) g) g.made g.made_after (with_bytes seen e.place bytes) is_commit still) (λ c is. is) (λ c is. is));
         broken = broken_so placed torn;
       }

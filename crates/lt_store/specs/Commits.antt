@@ -137,8 +137,8 @@ pub record Replaced (old new : DiskState) (r : Root) (placed : Bool) (g : Going)
   pub any_moment : LeftOnly old new (IsRootedOnEither g.feed g.before g.placing g.made g.after (placing_behind r g) g.made_after)
   -- after Ok the one after stands on every image
   pub acknowledged : OnOk result (LeavesNow new (IsRooted g.feed g.after (placing_behind r g) g.made_after))
-  -- after a fault in a read the one before does
-  pub unwritten : IfErr result (λ e. e ≡ faults.Read → LeavesNow new (IsRooted g.feed g.before g.placing g.made))
+  -- where a read failed the one before does, at each moment
+  pub unwritten : IfErr result (λ e. e ≡ faults.Read → LeftOnly old new (IsRooted g.feed g.before g.placing g.made))
   -- after any fault the images are honest
   pub broken : OnErr result (IsBroken new r placed g)
 
@@ -154,8 +154,8 @@ pub record HasCommitted (old new : DiskState) (store : Store) (root : Root) (pla
   pub any_moment : LeftOnly old new (IsRootedOnEither g.feed g.before g.placing g.made g.after (placing_behind root g) g.made_after)
   -- after Ok the one after stands on every image
   pub acknowledged : OnOk result (LeavesNow new (IsRooted g.feed g.after (placing_behind root g) g.made_after) × StandsAt store (placing_behind root g) g.made_after)
-  -- after a refusal that does not break the store the one before does
-  pub refused : OnErr result (store.broken ≡ false → LeavesNow new (IsRooted g.feed g.before g.placing g.made) × StandsAt store g.placing (g.made ++ g.fresh))
+  -- where it is refused and the store is whole, the one before does, at each moment
+  pub refused : OnErr result (store.broken ≡ false → LeftOnly old new (IsRooted g.feed g.before g.placing g.made) × StandsAt store g.placing (g.made ++ g.fresh))
   -- a broken store's images are honest
   pub broken : store.broken ≡ true → IsBroken new root placed g
 

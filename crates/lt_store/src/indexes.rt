@@ -31,6 +31,7 @@ pub fn read_indexes<D: Disk>(
     ensures read { IfOk result (λ v. IfSome (D.state disk.old).told (λ image. ReadsAll image manifest.now.catalogue
         (map view_delta manifest.now.deltas) (map view_index v.items))) }
     ensures lawful { IfOk result (λ v. AllByRecursion IsLawful (map view_index v.items)) }
+    ensures many { IfOk result (λ v. length v.items ≡ length manifest.now.deltas) }
     ensures refused { IfErr result (RefusesStep (HurtsIndexes (D.state disk.old).told (view_manifest manifest.now))) }
     ensures looks { LooksOnly (length manifest.now.deltas) (D.state disk.old) (D.state disk.new) }
     ensures cause { HasCause (D.state disk.old).faults (D.state disk.new).faults (of_disk result) }

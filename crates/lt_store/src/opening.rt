@@ -1,7 +1,7 @@
 //! The opening of a store. It begins with a sync, and makes three reads and one for each delta. Damage is looked for in the order of
 //! the reading: in the slots, in the manifest, in each index, and last in where all these and the bundles stand.
 
-ghost use Rattle.std.specs.Prelude.{◌≡◌, ◌-◌, [], IfErr, IfOk, IfSome, OnOk, false};
+ghost use Rattle.std.specs.Prelude.{◌≡◌, ◌-◌, [], IfErr, IfOk, IfSome, OnOk, false, length};
 ghost use Rattle.std.specs.List.{AllByRecursion};
 ghost use Rattle.lt_world.specs.Disk.{DiskGoes, HasCause, LeftOnly};
 ghost use Rattle.lt_world.specs.Feed.{Feed};
@@ -41,6 +41,7 @@ pub fn open<D: Disk>(alloc: Global, disk: &mut D) -> Result<Opened, OpenRefusal>
     ensures lawful { IfOk result (λ o. IsLawfulManifest (view_manifest o.manifest)
         × AllByRecursion IsLawful (placing_read o).indexes) }
     ensures whole { IfOk result (λ o. o.store.broken ≡ false) }
+    ensures many { IfOk result (λ o. length o.indexes.items ≡ length o.manifest.deltas) }
 
     // None is opened, by its cause; the first damage is named. On a sound store only the disk or memory is a cause.
     ensures refused { IfErr result (RefusesOpening (D.state disk.old).told) }
@@ -67,7 +68,8 @@ pub fn open<D: Disk>(alloc: Global, disk: &mut D) -> Result<Opened, OpenRefusal>
 
 /// Opens the store that a synced disk has.
 fn open_synced<D: Disk>(alloc: Global, disk: &mut D) -> Result<Opened, OpenRefusal>
-    ensures { OpensSynced (D.state disk.old) (D.state disk.new) result }
+    ensures opens { OpensSynced (D.state disk.old) (D.state disk.new) result }
+    ensures many { IfOk result (λ o. length o.indexes.items ≡ length o.manifest.deltas) }
 {
     let root = lt_root::load(disk)?;
     let manifest = read_manifest(alloc, disk, &root)?;

@@ -3,7 +3,7 @@
 ghost use Rattle.std.specs.Prelude.{◌<◌};
 
 use lt_space::Space;
-use lt_terms::Root;
+use lt_terms::{Extent, Root};
 
 /// The root that counts, what is taken of the file, and whether a write has failed.
 #[derive(Debug, Drop)]
@@ -18,6 +18,7 @@ pub struct Store {
 
 impl Store {
     ghost use Rattle.std.specs.Prelude.{◌≡◌, true};
+    ghost use Rattle.lt_storage.specs.Store.{root_extent};
 
     /// How many commits were made, from 1.
     pub fn generation(&self) -> u64
@@ -31,6 +32,16 @@ impl Store {
         ensures { result ≡ self.now.space.limit }
     {
         self.space.limit()
+    }
+
+    /// Where the manifest stands that counts.
+    pub fn manifest_at(&self) -> Extent
+        ensures { result ≡ root_extent self.now.root }
+    {
+        Extent {
+            place: self.root.place,
+            length: self.root.length,
+        }
     }
 
     /// Whether a write or a sync has failed.

@@ -178,7 +178,7 @@ returns-in_err-close_gate-clause-unwritten g c =
     where_told (v.state old).told _ (λ seen is_seen behind some has.
     let next = next_is r c.args.place c.args.length c.requires.slot c.requires.generation behind (omega (arith, c.ranges.place.fits)) some (omega (arith, c.ranges.length.fits)) in
     let at_sync = reaches_synced v r n next old c.sync.new.self seen is_seen c.sync.ensures.same (sync_run v r n next old c.sync.new.self has c.sync.ensures.called.time c.sync.ensures.crash) c.in_ok-sync.ensures.durable in
-    at_fault (λ e. e ≡ faults.Read) c.from_residual-in_err-close_gate.result (holds_now v old c.close_gate.new.disk (HasRoot r) (closing_run v r n next old c.sync.new.self c.close_gate.new.disk at_sync c.close_gate.ensures.images)))
+    at_fault (λ e. e ≡ faults.Read) c.from_residual-in_err-close_gate.result (closing_run v r n next old c.sync.new.self c.close_gate.new.disk at_sync c.close_gate.ensures.images))
 
 pub returns-clause-acknowledged : goal.returns-clause-acknowledged
 returns-clause-acknowledged g c =

@@ -1,4 +1,4 @@
-use Rattle.std.proofs.Common.{ap, arith, get_or, subst, sym, ◌<◌, ◌∙◌}
+use Rattle.std.proofs.Common.{[], ap, arith, get_or, length-append, subst, sym, ◌<◌, ◌∙◌, ◌∷◌}
 use Rattle.std.specs.Prelude.{IfSome, length, map, take, ◌+◌}
 use Rattle.std.specs.List.{AllByRecursion}
 use Rattle.lt_world.specs.Disk.{bytes_in}
@@ -54,4 +54,5 @@ loop-delta-preserved g c =
       read = subst (λ xs. IfSome (v.state old).told (λ image. ReadsAll image m.catalogue (map view_delta (take (n + 1) m.deltas)) (map view_index xs))) (sym c.in_ok-push.ensures.items)
           (read_more (v.state old).told m n is d none i there (ap (λ ds. get_or ds n none) c.as_slice-delta-items.ensures) so_far.read read known.known);
       lawful = subst (λ xs. AllByRecursion IsLawful (map view_index xs)) (sym c.in_ok-push.ensures.items) (lawful_more is i so_far.lawful known.lawful);
+      many = ap length c.in_ok-push.ensures.items ∙ length-append is (i ∷ []) ∙ ap (λ k. k + 1) so_far.many;
     }

@@ -19,16 +19,16 @@ at_ok (Err e) p = tt
 
 pub returns-in-Ok-clause-damage : goal.returns-in-Ok-clause-damage
 returns-in-Ok-clause-damage g c =
-    subst (λ told. IfErr c.open_synced.result (λ e. IfSome told (λ image. NamesDamage image e))) c.sync.ensures.same (names (g.D.Disk.state c.sync.new.self).told c.open_synced.result c.open_synced.ensures.refused)
+    subst (λ told. IfErr c.open_synced.result (λ e. IfSome told (λ image. NamesDamage image e))) c.sync.ensures.same (names (g.D.Disk.state c.sync.new.self).told c.open_synced.result c.open_synced.ensures.opens.refused)
 
 pub returns-in-Ok-clause-complete : goal.returns-in-Ok-clause-complete
 returns-in-Ok-clause-complete g c =
-    subst (λ told. IfErr c.open_synced.result (λ e. IfSome told (λ image. (f : Feed) → IsSound image f → IsNoDamage e))) c.sync.ensures.same (completes (g.D.Disk.state c.sync.new.self).told c.open_synced.result c.open_synced.ensures.refused)
+    subst (λ told. IfErr c.open_synced.result (λ e. IfSome told (λ image. (f : Feed) → IsSound image f → IsNoDamage e))) c.sync.ensures.same (completes (g.D.Disk.state c.sync.new.self).told c.open_synced.result c.open_synced.ensures.opens.refused)
 
 pub returns-in-Ok-clause-stable : goal.returns-in-Ok-clause-stable
-returns-in-Ok-clause-stable g c = at_ok c.open_synced.result (stable_on (device g) c.sync.new.self c.open_synced.new.disk c.open_synced.ensures.told c.open_synced.ensures.images c.in-Ok.ensures.durable)
+returns-in-Ok-clause-stable g c = at_ok c.open_synced.result (stable_on (device g) c.sync.new.self c.open_synced.new.disk c.open_synced.ensures.opens.told c.open_synced.ensures.opens.images c.in-Ok.ensures.durable)
 
 pub returns-in-Ok-clause-reads : goal.returns-in-Ok-clause-reads
 returns-in-Ok-clause-reads g c =
     subst (λ told. IfSome told (λ image. OpensIn image ((g.D.Disk.state c.open_synced.new.disk).reads - (g.D.Disk.state c.args.disk.now).reads))) c.sync.ensures.same
-    (subst (λ n. IfSome (g.D.Disk.state c.sync.new.self).told (λ image. OpensIn image ((g.D.Disk.state c.open_synced.new.disk).reads - n))) c.sync.ensures.read c.open_synced.ensures.reads)
+    (subst (λ n. IfSome (g.D.Disk.state c.sync.new.self).told (λ image. OpensIn image ((g.D.Disk.state c.open_synced.new.disk).reads - n))) c.sync.ensures.read c.open_synced.ensures.opens.reads)

@@ -15,8 +15,8 @@ use Rattle.lt_store.proofs.opening.open_synced.Goals as goal
 abbrev device : (g : given.Over) → Device g.row.D.Denot
 device g = record { state = g.D.Disk.state; counts_now = g.met.D.Disk.counts_now; only_now = g.met.D.Disk.only_now; reads_an_image = g.met.D.Disk.reads_an_image }
 
-pub returns-in_err-root : goal.returns-in_err-root
-returns-in_err-root g c =
+pub returns-in_err-root-clause-opens : goal.returns-in_err-root-clause-opens
+returns-in_err-root-clause-opens g c =
     let old = g.D.Disk.state c.args.disk.now in
     let now = g.D.Disk.state c.load.new.disk in
     let load = c.in_err-root.ensures in
@@ -24,8 +24,8 @@ returns-in_err-root g c =
     subst (OpensSynced old now) (sym (is_error c.from_residual.result (refusal_of_root r) c.from_residual.ensures.1))
     (no_root old now r (looks_once old now load.same load.images load.read load.written load.goes) load.cause load.refused)
 
-pub returns-in_err-manifest : goal.returns-in_err-manifest
-returns-in_err-manifest g c =
+pub returns-in_err-manifest-clause-opens : goal.returns-in_err-manifest-clause-opens
+returns-in_err-manifest-clause-opens g c =
     let v = device g in
     let old = v.state c.args.disk.now in
     let mid = v.state c.load.new.disk in
@@ -36,8 +36,8 @@ returns-in_err-manifest g c =
     (no_manifest old mid now c.in_ok-root.root e (looks_on v 1 2 c.args.disk.now c.load.new.disk c.read_manifest.new.disk (looks_once old mid load.same load.images load.read load.written load.goes) c.in_err-manifest.ensures.looks)
     load.same load.cause.kept load.ok c.in_err-manifest.ensures.cause c.in_err-manifest.ensures.refused)
 
-pub returns-in_err-indexes : goal.returns-in_err-indexes
-returns-in_err-indexes g c =
+pub returns-in_err-indexes-clause-opens : goal.returns-in_err-indexes-clause-opens
+returns-in_err-indexes-clause-opens g c =
     let v = device g in
     let old = v.state c.args.disk.now in
     let mid = v.state c.read_manifest.new.disk in
@@ -52,8 +52,8 @@ returns-in_err-indexes g c =
     (no_indexes (value_of c.read_indexes.result) old mid now r m e (looks_behind v c.args.disk.now c.read_manifest.new.disk c.read_indexes.new.disk r m was c.in_err-indexes.ensures.looks) was.looks.told was.faults was.has
     c.in_err-indexes.ensures.cause c.in_err-indexes.ensures.refused)
 
-pub returns-in_err-live : goal.returns-in_err-live
-returns-in_err-live g c =
+pub returns-in_err-live-clause-opens : goal.returns-in_err-live-clause-opens
+returns-in_err-live-clause-opens g c =
     let v = device g in
     let old = v.state c.args.disk.now in
     let now = v.state c.read_indexes.new.disk in
@@ -66,8 +66,8 @@ returns-in_err-live g c =
     subst (OpensSynced old now) (sym (is_error c.from_residual-in_err-live.result refusals.Memory c.from_residual-in_err-live.ensures.1))
     (no_memory old now r m (looks_behind v c.args.disk.now c.read_manifest.new.disk c.read_indexes.new.disk r m was all.looks) (all.cause.kept ∙ was.faults) was.has)
 
-pub returns-in_err-space : goal.returns-in_err-space
-returns-in_err-space g c =
+pub returns-in_err-space-clause-opens : goal.returns-in_err-space-clause-opens
+returns-in_err-space-clause-opens g c =
     let v = device g in
     let old = v.state c.args.disk.now in
     let now = v.state c.read_indexes.new.disk in
@@ -88,8 +88,8 @@ returns-in_err-space g c =
 pub invariant_of-store : goal.invariant_of-store
 invariant_of-store g c = record { slot = c.in_ok-root.ensures.lawful.1 }
 
-pub returns : goal.returns
-returns g c =
+pub returns-clause-opens : goal.returns-clause-opens
+returns-clause-opens g c =
     let v = device g in
     let old = v.state c.args.disk.now in
     let now = v.state c.read_indexes.new.disk in
