@@ -1,9 +1,8 @@
 //! The space of a store file, as the extents of it that are taken, in order of their places.
 //!
-//! `new` takes time as a sort does. `take` looks at no more extents than there are: a search for a gap that is longer than all
-//! those before the last extent that was taken goes on behind it, so pieces of one size follow each other without a look at
-//! the rest. `take` and `give` move the extents that stand behind theirs. `give` finds its extent in logarithmic time, and
-//! takes no memory.
+//! `new` takes time as a sort does. `take` and `give` take logarithmic time, and `take` that of the extents which its search passes.
+//! A search goes on where the one before it came to, unless a gap that it needs may stand before: so pieces of one size pass each
+//! extent once, wherever the gaps stand. What is given back brings the search back to it. `give` takes no memory.
 
 ghost use Rattle.std.specs.Prelude.{◌≡◌, ◌<◌, IsTrue, IfOk, IfErr, OnOk, OnErr, Contains};
 ghost use Rattle.std.specs.List.Sorted.{IsPermutation};
