@@ -1,0 +1,14 @@
+pub mod Answers
+pub mod BareStore
+pub mod Catalogues
+pub mod Committing
+pub mod Numbers
+pub mod Opening
+pub mod Behind
+pub mod Pumping
+pub mod Scans
+pub mod Settling
+pub mod Splitting
+pub mod State
+pub mod Stepped
+pub mod Steps
