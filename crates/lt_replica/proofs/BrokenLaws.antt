@@ -1,17 +1,16 @@
 -- A command that does not write is answered in a broken session as in a whole one.
-use Rattle.std.proofs.Common.{Bool, List, [], ap, false, inl, inr, refl, subst, sym, true, ℕ, ◌∙◌, ◌∷◌, ◌≡◌}
+use Rattle.std.proofs.Common.{List, [], ap, inl, inr, refl, subst, sym, ℕ, ◌∙◌, ◌≡◌}
 use Rattle.std.proofs.lemmas.Bool.{false≢true}
-use Rattle.std.specs.Prelude.{Err, IfOk, IfSome, IsTrue, None, Ok, Option, Result, Some, is_some, ◌&&◌, ◌⊎◌}
+use Rattle.std.specs.Prelude.{IsTrue, None, Option, Some, ◌⊎◌}
 use Rattle.lt_terms.specs.Log.{Change, Header, Item}
 use Rattle.lt_world.specs.Feed.{Feed}
 use Rattle.lt_tables.specs.Query.{Command, Query, do_pump, do_scan, do_status}
-use Rattle.lt_tables.specs.Schema.{first_of, when}
 use Rattle.lt_words.specs.Reply as model
 use Rattle.lt_storage.specs.Store.{Durable}
-use Rattle.lt_machine.specs.Machine.{Answer, Does, DoesOver, PumpsFair, Pumps, State, Step, StepBy, is_write, refused}
+use Rattle.lt_machine.specs.Machine.{Answer, Does, DoesOver, PumpsFair, Pumps, State, Step, StepBy, refused}
 use Rattle.lt_machine.specs.Outside.{BelongsTo}
 use Rattle.lt_machine.specs.Run.{AfterFault, Answers, FaultsIn, TakesSome, may_break}
-use Rattle.lt_machine.specs.Sound.{Fronts, IsGood, Memory, source_of}
+use Rattle.lt_machine.specs.Sound.{IsGood, Memory, source_of}
 
 -- a state with what a failed command would have left
 abbrev pub with_broken : Option Durable → State → State

@@ -3,7 +3,7 @@ use Rattle.std.proofs.Common.{Bool, List, [], ap, ap₂, arith, eq-eqb, eqb-true
 use Rattle.std.proofs.lemmas.Bool.{and_parts, false≢true}
 use Rattle.std.proofs.lemmas.Option.{slice_get-map}
 use Rattle.std.proofs.lemmas.List.Sorted.{IsPermutation-cons, IsPermutation-middle, IsPermutation-refl, IsPermutation-sym, IsPermutation-trans, list_any-IsPermutation}
-use Rattle.std.specs.Prelude.{Err, IfErr, IsTrue, None, Ok, OnOk, Option, Result, Some, is_none, is_some, map, nat_le, option_map, slice_get, ◌&&◌, ◌+◌, ◌-◌, ◌==◌, ◌^◌, ◌<◌, ◌||◌, ◌⊎◌}
+use Rattle.std.specs.Prelude.{Err, IfErr, IsTrue, None, Ok, OnOk, Option, Result, Some, is_none, is_some, map, nat_le, option_map, slice_get, ◌&&◌, ◌-◌, ◌==◌, ◌^◌, ◌||◌, ◌⊎◌}
 use Rattle.std.specs.List.{list_all, list_any}
 use Rattle.std.specs.List.Sorted.{IsPermutation}
 use Rattle.lt_terms.specs.declared.Extent.{Extent}
@@ -33,7 +33,7 @@ use Rattle.lt_replica.specs.Committing.{HasRun, IsQuiet, MayWrite, WritesNothing
 use Rattle.lt_replica.specs.Settling.{part_of_entry}
 use Rattle.lt_replica.specs.Numbers.{HasLawfulShape, Numbers, durable_with, has_manifest, is_worn_at, numbers_of}
 use Rattle.lt_parts.specs.declared.entry.PartEntry.{PartEntry}
-use Rattle.lt_replica.specs.State.{IsIn, state_in, state_of}
+use Rattle.lt_replica.specs.State.{IsIn, state_in}
 use Rattle.lt_replica.specs.declared.replica.Replica.{Replica}
 
 -- ---- whether a command may write

@@ -1,54 +1,34 @@
 -- What a command that commits leads to: refused, or done, or failed, on the images that a crash may leave.
-use Rattle.std.proofs.Common.{Bool, List, [], ap, ap₂, append-nil, arith, false, inl, inr, length, lt-ltb, refl, subst, sym, true, ℕ, ◌++◌, ◌<◌, ◌∙◌, ◌∷◌, ◌≡◌, ◌≤◌}
-use Rattle.std.proofs.lemmas.Bool.{and_parts, false≢true}
-use Rattle.std.proofs.lemmas.List.Sorted.{Contains-permutation, IsPermutation-refl, IsPermutation-sym}
-use Rattle.std.specs.List.{AllByRecursion, list_all}
-use Rattle.std.specs.List.Sorted.{IsPermutation}
-use Rattle.std.specs.Prelude.{Err, IfErr, IfOk, IfSome, IsSome, IsTrue, None, Ok, OnErr, OnOk, Option, Result, Some, is_some, map, filter, flat_map, if◌then◌else◌, nat_le, nat_lt, slice_get, take, ◌&&◌, ◌+◌, ◌⊎◌}
-use Rattle.lt_terms.specs.declared.Extent.{Extent}
-use Rattle.lt_terms.specs.declared.Root.{Root}
+use Rattle.std.proofs.Common.{List, [], ap, arith, false, inl, inr, length, lt-ltb, refl, subst, sym, true, ℕ, ◌++◌, ◌<◌, ◌∙◌, ◌∷◌, ◌≡◌}
+use Rattle.std.proofs.lemmas.Bool.{false≢true}
+use Rattle.std.specs.Prelude.{Err, IfSome, IsSome, IsTrue, None, Option, Result, Some, is_some, filter, flat_map, if◌then◌else◌, nat_le, ◌⊎◌}
 use Rattle.lt_terms.specs.Log.{Change, Header, Item}
-use Rattle.lt_world.specs.Disk.{DiskGoes, DiskState, HasCause, LeavesNow, LeftOnly, Rose}
-use Rattle.lt_world.specs.Extents.{IsFull, apart, are_apart, is_gap}
+use Rattle.lt_world.specs.Disk.{DiskGoes, DiskState, LeavesNow, LeftOnly}
 use Rattle.lt_world.specs.Feed.{Feed, FeedState}
 use Rattle.lt_world.specs.RowSink.{RowSinkState}
-use Rattle.lt_tables.specs.Pump.{name_of}
 use Rattle.lt_tables.specs.Query.{Command, Literal, do_retire, do_schema, do_split}
 use Rattle.lt_words.specs.Reply as model
-use Rattle.lt_storage.specs.Store.{Delta, Durable, Holds, bundle_lengths, index_length, manifest_length, Manifest, Placing, bare_manifest, extents_of, manifest_bytes}
-use Rattle.lt_image_laws.proofs.Commit.{commit_laws}
-use Rattle.lt_image_laws.proofs.Standing.{honest_stays}
-use Rattle.lt_image_laws.specs.Commit.{IsRootedOnEither, broken_at, broken_by}
-use Rattle.lt_image_laws.specs.Shelf.{placing_for}
-use Rattle.lt_image_laws.specs.Standing.{IsRooted, placed_at}
-use Rattle.lt_machine.specs.Machine.{Answer, Does, DoesOver, State, Step, cat_of, is_broken, is_reopen, is_write, query_of, refused, refuses, replies}
-use Rattle.lt_machine.specs.OverStore.{KeepsBundles, LacksRoomIn, any_store_causes, on_store, store_causes}
-use Rattle.lt_machine.specs.Outside.{AreBesides, BelongsTo, IsHonest, IsKept, IsOutOfRoom, LacksRoom, LeavesSession, MemoryAbove, StandsOn, StaysBut, World, caused_by, commit_lengths, counts_at, is_commit, live_extents, piece_lengths, world_of, writes_bundles}
-use Rattle.lt_machine.specs.Run.{AfterFault, Answers, Counts, FaultsIn, Shows, calls_feed, is_disk_fault, is_fault, looks_at_bundles, may_break, may_end_in, uses_disk, WouldLeave}
-use Rattle.lt_machine.specs.Sound.{FailedIsLater, FailedIsSound, Fronts, IsGood, IsSoundFor, LeavesPart, Memory, Session, source_of}
-use Rattle.lt_machine.specs.Step.{MayRefuse, RefusesAs, Served, Serves, Stepped, held_changes}
-use Rattle.lt_reply.specs.View.{view_refusal, view_reply}
+use Rattle.lt_storage.specs.Store.{Delta, Durable, bundle_lengths, index_length, manifest_length, bare_manifest, manifest_bytes}
+use Rattle.lt_machine.specs.Machine.{Answer, Does, DoesOver, State, cat_of, is_reopen, is_write, refused, refuses}
+use Rattle.lt_machine.specs.OverStore.{store_causes}
+use Rattle.lt_machine.specs.Outside.{BelongsTo, IsKept, LeavesSession, MemoryAbove, World, commit_lengths, counts_at, piece_lengths, world_of, writes_bundles}
+use Rattle.lt_machine.specs.Run.{Answers, Shows, calls_feed, looks_at_bundles, may_break, may_end_in, uses_disk, WouldLeave}
+use Rattle.lt_machine.specs.Sound.{Fronts, Session}
+use Rattle.lt_machine.specs.Step.{MayRefuse, RefusesAs, Served, Serves, Stepped}
+use Rattle.lt_reply.specs.View.{view_refusal}
 use Rattle.lt_reply.specs.declared.refusal.Refusal.{Refusal}
-use Rattle.lt_reply.specs.declared.refusal.Refusal.TheVariants as refusals
 use Rattle.lt_reply.specs.declared.reply.Reply.{Reply}
 use Rattle.lt_steps.proofs.PathLaws.{answers_keep}
-use Rattle.lt_steps.proofs.StoreServes.{serves_by}
-use Rattle.lt_store.specs.Commits.{Going, IsBrokenOff, IsReady, RefusesCommit, StaysStore}
-use Rattle.lt_store.specs.Standing.{StandsAt}
-use Rattle.lt_store.specs.declared.committing.CommitRefusal.{CommitRefusal}
-use Rattle.lt_store.specs.declared.committing.CommitRefusal.TheVariants as commits
-use Rattle.lt_store.specs.declared.store.Store.{Store}
 use Rattle.lt_replica.specs.BareStore.{on_bare_store}
-use Rattle.lt_replica.specs.Committing.{Attempt, CommitCall, IsLeft, IsQuiet, Tried, refusal_for, refuses as refuses_it, tries}
-use Rattle.lt_replica.specs.State.{IsIn, StandsFor, memory_of, state_in, state_of}
+use Rattle.lt_replica.specs.Committing.{IsQuiet}
+use Rattle.lt_replica.specs.State.{IsIn, memory_of, state_in, state_of}
 use Rattle.lt_replica.specs.Stepped.{LeadsOn}
-use Rattle.lt_replica.specs.Steps.{Refuses, Stays, answer_of, with_rows}
+use Rattle.lt_replica.specs.Steps.{Refuses, Stays, answer_of}
 use Rattle.lt_replica.specs.declared.replica.Replica.{Replica}
-use Rattle.lt_replica.proofs.BrokenLaws.{belongs_in, belongs_of, good_of, with_broken}
-use Rattle.lt_replica.proofs.CauseLaws.{caused_more}
+use Rattle.lt_replica.proofs.BrokenLaws.{belongs_of, with_broken}
 use Rattle.lt_replica.proofs.Results.{refused_or_lacks}
 use Rattle.lt_replica.specs.Pumping.{KeepsStore}
-use Rattle.lt_replica.proofs.StepLaws.{at_replica, given_nothing, is_replica, refusal_answers, free_step, serves_bare, serves_still, stands_still, and_stays, is_refused}
+use Rattle.lt_replica.proofs.StepLaws.{at_replica, given_nothing, is_replica, refusal_answers, serves_still, stands_still, and_stays, is_refused}
 
 -- the commands that commit, of those that are built
 pub data IsCommitting : Command → Type 0 where

@@ -1,31 +1,29 @@
 -- What a commit leads to: the session after it stands on every image, or the one before does, or the session is broken.
-use Rattle.std.proofs.Common.{Bool, List, [], ap, ap₂, append-nil, arith, false, inl, inr, length, refl, subst, sym, true, ℕ, ◌++◌, ◌+◌, ◌<◌, ◌∙◌, ◌∷◌, ◌≡◌, ◌≤◌}
+use Rattle.std.proofs.Common.{Bool, List, [], ap, append-nil, arith, false, inl, inr, refl, subst, sym, true, ℕ, ◌++◌, ◌<◌, ◌∙◌, ◌∷◌, ◌≡◌}
 use Rattle.std.proofs.lemmas.Bool.{false≢true}
-use Rattle.std.proofs.lemmas.List.Sorted.{Contains-permutation, IsPermutation-refl, IsPermutation-sym, IsPermutation-trans}
-use Rattle.std.specs.List.{AllByRecursion, list_all}
+use Rattle.std.proofs.lemmas.List.Sorted.{IsPermutation-refl}
+use Rattle.std.specs.List.{AllByRecursion}
 use Rattle.std.specs.List.Sorted.{IsPermutation}
-use Rattle.std.specs.Prelude.{Err, IfErr, IfOk, IfSome, IsSome, IsTrue, None, Ok, OnErr, OnOk, Option, Result, Some, is_some, map, slice_get, ◌⊎◌}
+use Rattle.std.specs.Prelude.{Err, IfSome, IsSome, IsTrue, None, Ok, Option, Result, Some, is_some, map, slice_get, ◌⊎◌}
 use Rattle.lt_terms.specs.declared.Extent.{Extent}
 use Rattle.lt_terms.specs.declared.Root.{Root}
-use Rattle.lt_terms.specs.Log.{Change, Header, Item}
-use Rattle.lt_world.specs.Disk.{DiskGoes, DiskState, HasCause, LeavesNow, LeftOnly, Rose}
-use Rattle.lt_world.specs.Extents.{IsFull, is_gap}
+use Rattle.lt_terms.specs.Log.{Header, Item}
+use Rattle.lt_world.specs.Disk.{DiskGoes, DiskState, HasCause, LeavesNow, Rose}
 use Rattle.lt_world.specs.Feed.{Feed, FeedState}
 use Rattle.lt_world.specs.RowSink.{RowSinkState}
 use Rattle.lt_tables.specs.Query.{Command}
 use Rattle.lt_words.specs.Reply as model
-use Rattle.lt_storage.specs.Store.{Delta, Durable, Holds, Manifest, Placing, bare_manifest, extents_of, manifest_bytes}
+use Rattle.lt_storage.specs.Store.{Durable, Manifest, Placing, bare_manifest, extents_of}
 use Rattle.lt_image_laws.proofs.Commit.{commit_laws}
 use Rattle.lt_image_laws.proofs.Room.{room_laws}
 use Rattle.lt_image_laws.proofs.Standing.{honest_stays}
 use Rattle.lt_image_laws.specs.Commit.{IsRootedOnEither}
-use Rattle.lt_image_laws.specs.Shelf.{manifest_for, placing_for}
+use Rattle.lt_image_laws.specs.Shelf.{placing_for}
 use Rattle.lt_image_laws.specs.Standing.{IsRooted}
-use Rattle.lt_machine.specs.Machine.{Does, State, is_broken, Step, cat_of, refused, refuses, replies}
-use Rattle.lt_machine.specs.OverStore.{on_store, store_causes}
-use Rattle.lt_machine.specs.Outside.{BelongsTo, IsHonest, IsKept, IsOutOfRoom, LeavesSession, MemoryAbove, StandsOn, StaysBut, World, caused_by, counts_at, live_extents, piece_lengths, world_of}
-use Rattle.lt_machine.specs.Run.{AfterFault, Answers, Counts, FaultsIn, Shows, is_fault, may_end_in}
-use Rattle.lt_machine.specs.Sound.{Fronts, IsGood, IsSoundFor, LeavesPart, Memory, Session, source_of}
+use Rattle.lt_machine.specs.Machine.{State, is_broken, cat_of, refuses, replies}
+use Rattle.lt_machine.specs.Outside.{IsHonest, IsOutOfRoom, LeavesSession, StandsOn, counts_at, live_extents, piece_lengths, world_of}
+use Rattle.lt_machine.specs.Run.{AfterFault, Answers, Shows, is_fault, may_end_in}
+use Rattle.lt_machine.specs.Sound.{Fronts, LeavesPart, Memory, Session, source_of}
 use Rattle.lt_machine.specs.Step.{MayRefuse, RefusesAs, Served, Serves, Stepped, held_changes}
 use Rattle.lt_reply.specs.View.{view_refusal, view_reply}
 use Rattle.lt_reply.specs.declared.refusal.Refusal.{Refusal}
@@ -42,8 +40,8 @@ use Rattle.lt_replica.specs.BareStore.{IsBare, on_bare_store}
 use Rattle.lt_replica.specs.Committing.{Attempt, CommitCall, IsLeft, Tried, after, refusal_for, refuses as refuses_it, tries}
 use Rattle.lt_store.specs.Commits.{HasCommitted, LeadsTo}
 use Rattle.lt_replica.specs.Stepped.{LeadsOn}
-use Rattle.lt_replica.specs.State.{IsIn, StandsFor, memory_of, state_in, state_of}
-use Rattle.lt_replica.specs.Steps.{Stays, answer_of, with_rows}
+use Rattle.lt_replica.specs.State.{StandsFor, memory_of, state_in, state_of}
+use Rattle.lt_replica.specs.Steps.{Stays, answer_of}
 use Rattle.lt_replica.specs.declared.replica.Replica.{Replica}
 use Rattle.lt_replica.proofs.CommitSteps.{Commits, IsCommitting, Knows, commits_of, each_weaker, now_all, refused_leads}
 use Rattle.lt_replica.proofs.BrokenLaws.{belongs_in}

@@ -23,7 +23,7 @@ use Rattle.lt_manifest.specs.declared.stored.Stored.{Stored}
 use Rattle.lt_manifest.specs.declared.stored.StreamEntry.{StreamEntry}
 use Rattle.lt_pending.specs.Held.{held_in}
 use Rattle.lt_pending.specs.declared.changes.Changes.{Changes}
-use Rattle.lt_world.specs.Disk.{DiskState, Rose}
+use Rattle.lt_world.specs.Disk.{DiskState}
 use Rattle.lt_world.specs.Feed.{Feed, FeedState}
 use Rattle.lt_machine.specs.Outside.{counts_in}
 use Rattle.lt_machine.specs.Program.{IsOpened, KeepsLows}

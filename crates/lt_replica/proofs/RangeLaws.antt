@@ -1,5 +1,4 @@
 -- Which streams meet a partition, and the partitions' checkpoints one after another.
-use Rattle.lt_replica.specs.Numbers.{Numbers}
 use Rattle.std.proofs.Common.{Bool, List, None, Option, Some, [], ap, ap₂, append-nil, arith, false, inl, inr, length, map, not, refl, subst, suc, sym, take, true, zero, ℕ, ◌+◌, ◌++◌, ◌<◌, ◌∙◌, ◌∷◌, ◌≡◌, ◌≤◌}
 use Rattle.std.specs.Prelude.{IfNone, IfSome, max, min, option_map, slice_get, unwrap_or, zip, ◌&&◌}
 use Rattle.std.specs.Option.{option_map_or}

@@ -1,7 +1,7 @@
 -- What the machine refuses, of a state without a job or deltas that is not broken.
 use Rattle.lt_replica.specs.Numbers.{Numbers, is_worn_at}
 use Rattle.std.proofs.Common.{Bool, List, [], ap, arith, false, length, ltb-true, not, refl, sym, true, ℕ, ◌∙◌, ◌∷◌, ◌≡◌}
-use Rattle.std.specs.Prelude.{Err, None, Ok, Option, Result, Some, if◌then◌else◌, is_none, nat_lt, option_and_then, option_map, ◌&&◌, ◌==◌, ◌^◌, ◌-◌, ◌||◌}
+use Rattle.std.specs.Prelude.{Err, None, Ok, Option, Result, Some, if◌then◌else◌, is_none, nat_lt, option_and_then, option_map, ◌&&◌, ◌==◌}
 use Rattle.std.specs.Option.{option_map_or, option_or}
 use Rattle.lt_terms.specs.Key.{Range}
 use Rattle.lt_tables.specs.Pump.{StreamAt}

@@ -1,7 +1,7 @@
 -- What commands are answered with: results, the version that a command names, retirements.
 use Rattle.lt_replica.specs.Numbers.{Numbers, is_worn_at}
 use Rattle.std.proofs.Common.{Bool, List, [], ap, false, not, refl, subst, sym, true, ℕ, ◌∙◌, ◌∷◌, ◌≡◌}
-use Rattle.std.specs.Prelude.{Err, IfErr, IfOk, None, Ok, Option, Result, Some, is_none, option_and_then, option_map, ◌-◌, ◌==◌, ◌^◌}
+use Rattle.std.specs.Prelude.{Err, IfErr, IfOk, None, Ok, Option, Result, Some, is_none, option_and_then, option_map}
 use Rattle.std.specs.Option.{option_map_or}
 use Rattle.std.specs.Result.{IsErrAnd}
 use Rattle.lt_tables.specs.Pump.{StreamAt}

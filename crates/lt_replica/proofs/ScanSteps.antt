@@ -30,7 +30,6 @@ use Rattle.lt_replica.specs.Stepped.{IsAnswered, LeadsOn}
 use Rattle.lt_replica.specs.declared.replica.Replica.{Replica}
 use Rattle.lt_replica.proofs.Results.{refuses_spoken}
 use Rattle.lt_replica.proofs.BrokenLaws.{reads_scan}
-use Rattle.lt_replica.specs.Pumping.{KeepsStore}
 use Rattle.lt_replica.proofs.StepLaws.{IsCaused, and_stays, free_step, given_nothing, is_caused, is_refused, leads_on, refusal_answers}
 
 -- ---- the machine

@@ -1,22 +1,18 @@
 -- What a schema and a retirement leave.
 use Rattle.lt_replica.specs.Numbers.{is_worn_at, numbers_of}
-use Rattle.std.proofs.Common.{List, [], ap, refl, sym, ℕ, ◌+◌, ◌∙◌, ◌≡◌}
-use Rattle.std.specs.Prelude.{None, Ok, ◌==◌, ◌^◌, ◌-◌, false}
-use Rattle.lt_tables.specs.Pump.{StreamAt}
+use Rattle.std.proofs.Common.{List, [], ap, refl, sym, ℕ, ◌≡◌}
+use Rattle.std.specs.Prelude.{None, Ok, false}
 use Rattle.lt_machine.specs.Machine.{Does, added_text, names_version, refused, replies, with_catalogue}
 use Rattle.lt_words.specs.Reply.{retire_done, schema_done}
 use Rattle.lt_tables.specs.Schema.{Catalogue, IsCatalogue, retire_fault, without_version}
 use Rattle.lt_tables.specs.Query.{do_retire, do_schema}
-use Rattle.lt_parts.specs.declared.entry.PartEntry.{PartEntry}
 use Rattle.lt_pump.specs.Pumps.{streams_of}
-use Rattle.lt_reply.specs.View.{view_reply}
-use Rattle.lt_reply.specs.declared.reply.Reply.{Reply}
 use Rattle.lt_replica.specs.Committing.{Attempt}
 use Rattle.lt_world.specs.Feed.{Feed}
 use Rattle.lt_terms.specs.Log.{Change}
 use Rattle.lt_steps.proofs.AboveLaws.{memory_is_above}
 use Rattle.lt_steps.proofs.StayedMemory.{memory_stays}
-use Rattle.lt_replica.specs.State.{memory_of, state_of, state_with}
+use Rattle.lt_replica.specs.State.{memory_of, state_of}
 use Rattle.lt_replica.specs.Steps.{Stays}
 use Rattle.lt_replica.specs.declared.replica.Replica.{Replica}
 use Rattle.lt_replica.proofs.Results.{numbers, retire_lets, some_named}

@@ -1,5 +1,5 @@
 -- A split over the store: what it would leave, and what its commit left.
-use Rattle.std.proofs.Common.{Bool, List, [], ap, ap₂, arith, false, inl, inr, le-leb, length, ltb-false, refl, subst, sym, true, ℕ, ◌+◌, ◌++◌, ◌-◌, ◌∙◌, ◌∷◌, ◌≡◌, ◌≤◌}
+use Rattle.std.proofs.Common.{Bool, List, [], ap, ap₂, arith, false, le-leb, length, ltb-false, refl, subst, sym, true, ℕ, ◌+◌, ◌++◌, ◌-◌, ◌∙◌, ◌∷◌, ◌≡◌, ◌≤◌}
 use Rattle.std.proofs.lemmas.Bool.{and_from, and_parts}
 use Rattle.std.proofs.lemmas.List.{length-map}
 use Rattle.std.specs.List.{list_all, list_any}
@@ -7,14 +7,14 @@ use Rattle.std.specs.Prelude.{Err, IsTrue, None, Ok, OnErr, OnOk, Option, Result
 use Rattle.lt_terms.specs.Key.{max_key, tile}
 use Rattle.lt_terms.specs.Value.{rises_strictly}
 use Rattle.lt_terms.specs.Log.{Change}
-use Rattle.lt_world.specs.Disk.{DiskGoes, DiskState}
+use Rattle.lt_world.specs.Disk.{DiskState}
 use Rattle.lt_world.specs.Feed.{Feed}
 use Rattle.lt_tables.specs.Pump.{Part, StreamAt, part_of}
 use Rattle.lt_tables.specs.Query.{Command, Literal, do_split}
 use Rattle.lt_tables.specs.Schema.{Catalogue, Table, first_of, when}
 use Rattle.lt_words.specs.Reply.{bad_column, key_too_long, split_done, wrong_literal}
 use Rattle.lt_storage.specs.Store.{Manifest, bare_manifest, fits_63, is_part_entry, part_ranges}
-use Rattle.lt_machine.specs.Machine.{Does, State, part_misfit, ranges_of, refused, replies, split_key, split_parts}
+use Rattle.lt_machine.specs.Machine.{Does, part_misfit, ranges_of, refused, replies, split_key, split_parts}
 use Rattle.lt_machine.specs.Outside.{BelongsTo}
 use Rattle.lt_machine.specs.Sound.{Memory}
 use Rattle.lt_store.specs.Commits.{HasKept}
@@ -29,10 +29,9 @@ use Rattle.lt_steps.proofs.AboveLaws.{memory_is_above}
 use Rattle.lt_steps.proofs.SplitMemory.{memory_splits}
 use Rattle.lt_steps.specs.Memory.{split_memory}
 use Rattle.lt_store.specs.declared.committing.CommitRefusal.{CommitRefusal}
-use Rattle.lt_store.specs.declared.store.Store.{Store}
 use Rattle.lt_replica.specs.Catalogues.{CommitsSplit, HasNotParted, HasParted, KeepsOthers, calls_split, lacks_split}
-use Rattle.lt_replica.specs.Committing.{Attempt, CommitCall, HasRun, IsLeft, MayWrite, Tried, after, after_commit, answer_for, refusal_for, refuses, tries}
-use Rattle.lt_replica.specs.Numbers.{HasLawfulShape, Numbers, durable_with, next_numbers, numbers_of}
+use Rattle.lt_replica.specs.Committing.{Attempt, CommitCall, IsLeft, MayWrite, Tried, after, after_commit, answer_for, refuses, tries}
+use Rattle.lt_replica.specs.Numbers.{HasLawfulShape, Numbers, durable_with, numbers_of}
 use Rattle.lt_replica.specs.Settling.{part_of_entry}
 use Rattle.lt_replica.specs.Splitting.{HasSplit, IsSplitKey, key_fault, named_key_fault, parted_at, parts_fault}
 use Rattle.lt_replica.specs.State.{memory_of, state_of, state_with}

@@ -1,7 +1,7 @@
 -- A split: what it is refused for, and what it makes of the partitions and of what each holds.
 use Rattle.lt_replica.specs.Numbers.{Numbers, is_worn_at, next_numbers}
 use Rattle.std.proofs.Common.{Bool, List, [], add-one, ap, ap₂, arith, cond, false, get_or, length, not, refl, set, subst, suc, sym, true, zero, ℕ, ◌+◌, ◌++◌, ◌<◌, ◌∙◌, ◌∷◌, ◌≡◌, ◌≤◌}
-use Rattle.std.specs.Prelude.{None, Option, Some, IsTrue, codes, filter, find, insert, is_none, map, nat_le, nat_lt, option_and_then, option_map, ◌&&◌, ◌==◌, ◌^◌, ◌-◌}
+use Rattle.std.specs.Prelude.{None, Option, Some, IsTrue, codes, filter, find, insert, is_none, map, nat_le, nat_lt, option_and_then, option_map, ◌&&◌, ◌==◌, ◌-◌}
 use Rattle.std.specs.List.{AllByRecursion}
 use Rattle.std.specs.Option.{option_or}
 use Rattle.std.proofs.lemmas.List.{length-map}

@@ -1,32 +1,28 @@
 -- A session that begins on a bare store: each stream stands behind its header, and memory is empty.
 use Rattle.std.proofs.lemmas.Bool.{cases_eq, false≢true}
-use Rattle.std.proofs.Common.{Bool, List, [], ap, ap₂, arith, false, inl, inr, length, refl, subst, sym, true, ℕ, ◌<◌, ◌∙◌, ◌∷◌, ◌≡◌, ◌≤◌}
-use Rattle.std.specs.Prelude.{IfSome, IsSome, IsTrue, None, Option, Some, is_some, map, zip, ⊤, ◌⊎◌}
-use Rattle.std.specs.List.{AllByRecursion}
-use Rattle.lt_world.specs.Disk.{DiskGoes, DiskState, LeavesNow, LeftOnly, Only, Rose}
+use Rattle.std.proofs.Common.{List, [], ap, ap₂, arith, inl, inr, refl, subst, sym, ℕ, ◌<◌, ◌∙◌, ◌∷◌, ◌≡◌}
+use Rattle.std.specs.Prelude.{IfSome, IsSome, IsTrue, None, Option, Some, is_some, map, zip, ◌⊎◌}
+use Rattle.lt_world.specs.Disk.{DiskState, LeavesNow, Only}
 use Rattle.lt_world.specs.Feed.{AreShort, Feed, FeedState}
 use Rattle.lt_world.specs.Slots.{HasNoStore, is_open}
-use Rattle.lt_disk.specs.Within.{IsStable}
 use Rattle.lt_terms.specs.Log.{Header}
 use Rattle.lt_tables.specs.Pump.{Attaches, Part, StreamAt, behind_header, name_of}
 use Rattle.lt_terms.specs.declared.Root.{Root}
 use Rattle.lt_storage.specs.Store.{Delta, Durable, HasDeltas, HoldsAt, Placing, Stream, durable_of}
 use Rattle.lt_tables.specs.Schema.{Catalogue}
-use Rattle.lt_terms.specs.declared.Extent.{Extent}
 use Rattle.lt_image_laws.proofs.Opening.{opened_is_held, same_placing}
 use Rattle.lt_image_laws.specs.Standing.{IsRooted}
 use Rattle.lt_image_laws.proofs.Standing.{honest_stays}
 use Rattle.lt_image_laws.specs.Opening.{OpensOn}
 use Rattle.lt_image_laws.specs.Shelf.{placing_for}
-use Rattle.lt_machine.specs.Machine.{Job, State, opened, start_of}
+use Rattle.lt_machine.specs.Machine.{State, opened, start_of}
 use Rattle.lt_machine.specs.OverStore.{BeginsFrom, on_store}
-use Rattle.lt_machine.specs.Outside.{BelongsTo, IsKept, MemoryAbove, StandsOn, counts_in}
+use Rattle.lt_machine.specs.Outside.{IsKept, MemoryAbove, StandsOn, counts_in}
 use Rattle.lt_machine.specs.Program.{IsOpened}
 use Rattle.lt_machine.specs.Run.{start_disk}
 use Rattle.lt_machine.specs.Sound.{IsSound, Memory, Session}
 use Rattle.lt_machine.specs.Step.{NotStarted, Serves, Started}
 use Rattle.lt_pump.specs.Pumps.{streams_of}
-use Rattle.lt_pump.specs.declared.refusal.AttachRefusal.TheVariants as attach
 use Rattle.lt_store.specs.Standing.{StandsAt}
 use Rattle.lt_store.specs.declared.refusal.OpenRefusal.TheVariants as store
 use Rattle.lt_steps.proofs.AboveLaws.{memory_is_above}
@@ -35,7 +31,7 @@ use Rattle.lt_steps.proofs.ReopenedMemory.{memory_reopens}
 use Rattle.lt_steps.specs.Kept.{kept_lows, nothing_held}
 use Rattle.lt_replica.specs.BareStore.{on_bare_store}
 use Rattle.lt_replica.specs.Opening.{Opens, RefusesOpening, at_start}
-use Rattle.lt_replica.specs.State.{IsFed, StandsFor, durable_with, memory_of, state_in, state_of, state_with, view_start}
+use Rattle.lt_replica.specs.State.{IsFed, StandsFor, memory_of, state_of, view_start}
 use Rattle.lt_replica.specs.declared.refusal.OpeningRefusal.{OpeningRefusal}
 use Rattle.lt_replica.specs.declared.refusal.OpeningRefusal.TheVariants as opening
 use Rattle.lt_replica.specs.declared.replica.Replica.{Replica}

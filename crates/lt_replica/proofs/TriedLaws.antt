@@ -1,5 +1,5 @@
 -- What a command on versions leaves: it was refused before anything was written, or its commit was called.
-use Rattle.std.proofs.Common.{List, [], ap, ap₂, false, inl, inr, refl, subst, sym, true, ℕ, ◌+◌, ◌∙◌, ◌≡◌, ◌⊎◌}
+use Rattle.std.proofs.Common.{List, [], ap, ap₂, false, inl, inr, refl, subst, sym, true, ℕ, ◌+◌, ◌∙◌, ◌≡◌}
 use Rattle.std.specs.Prelude.{Err, None, Ok, OnErr, OnOk, Option, Result, Some}
 use Rattle.std.specs.Result.{IsErrAnd}
 use Rattle.lt_disk.proofs.Moments.{Device}
@@ -20,7 +20,7 @@ use Rattle.lt_store.specs.declared.committing.CommitRefusal.{CommitRefusal}
 use Rattle.lt_store.specs.declared.store.Store.{Store}
 use Rattle.lt_replica.specs.Answers.{IsWithout, retire_refusal, text_refusal, version_refusal}
 use Rattle.lt_replica.specs.Catalogues.{CommitsCatalogue, KeepsRest, calls, lacks}
-use Rattle.lt_replica.specs.Committing.{Attempt, CommitCall, after, HasRun, IsLeft, IsNoWrite, MayWrite, Tried, WritesNothing, answer_for, refusal_for, refuses, tries}
+use Rattle.lt_replica.specs.Committing.{Attempt, CommitCall, after, HasRun, IsLeft, IsNoWrite, MayWrite, Tried, WritesNothing, answer_for, refuses, tries}
 use Rattle.lt_replica.specs.State.{IsIn, durable_with, memory_of, numbers_of, state_in, state_of, state_with}
 use Rattle.lt_replica.specs.Steps.{Refuses, Stays}
 use Rattle.lt_replica.specs.declared.replica.Replica.{Replica}

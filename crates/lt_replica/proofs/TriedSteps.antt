@@ -1,12 +1,10 @@
 -- What a step says of a command that commits, beside where it leads.
-use Rattle.std.proofs.Common.{Bool, List, [], ap, false, refl, subst, sym, true, ◌∙◌, ◌≡◌, ◌≤◌, length}
-use Rattle.std.specs.Prelude.{Err, IfErr, None, Ok, Option, Result, Some, is_some}
-use Rattle.std.proofs.lemmas.Bool.{false≢true}
+use Rattle.std.proofs.Common.{Bool, List, ap, false, refl, subst, sym, true, ◌∙◌, ◌≡◌, ◌≤◌, length}
+use Rattle.std.specs.Prelude.{Err, IfErr, None, Ok, Option, Result, Some}
 use Rattle.lt_world.specs.Disk.{DiskGoes, DiskState}
 use Rattle.lt_world.specs.Feed.{FeedState}
 use Rattle.lt_world.specs.RowSink.{RowSinkState}
 use Rattle.lt_pump.proofs.FeedLaws.{goes_itself}
-use Rattle.lt_pump.specs.Pumps.{streams_of}
 use Rattle.lt_tables.specs.Pump.{StreamAt}
 use Rattle.lt_tables.specs.Query.{Command}
 use Rattle.lt_words.specs.Reply as model
@@ -19,7 +17,7 @@ use Rattle.lt_reply.specs.declared.refusal.Refusal.TheVariants as refusals
 use Rattle.lt_reply.specs.declared.reply.Reply.{Reply}
 use Rattle.lt_store.specs.declared.committing.CommitRefusal.{CommitRefusal}
 use Rattle.lt_store.specs.declared.committing.CommitRefusal.TheVariants as commits
-use Rattle.lt_replica.specs.Committing.{Attempt, CommitCall, IsLeft, Tried, refusal_for, refuses, tries}
+use Rattle.lt_replica.specs.Committing.{Attempt, IsLeft, Tried, refusal_for, refuses, tries}
 use Rattle.lt_replica.specs.State.{IsFed, IsIn, state_in, state_of}
 use Rattle.lt_replica.specs.Steps.{Refuses, falls, fell}
 use Rattle.lt_replica.specs.declared.replica.Replica.{Replica}

@@ -1,5 +1,5 @@
 -- The program over a bare store: deltas, restart points and a minimum above 0 are planned, and a store that has any of them is not opened yet.
-use Rattle.std.specs.Prelude.{Bool, IfSome, IsTrue, List, Option, [], map, ℕ, ◌≡◌, ◌⊎◌}
+use Rattle.std.specs.Prelude.{IfSome, IsTrue, List, Option, [], ℕ, ◌≡◌, ◌⊎◌}
 use Rattle.std.specs.List.{AllByRecursion}
 use Rattle.lt_terms.specs.declared.Extent.{Extent}
 use Rattle.lt_terms.specs.declared.Root.{Root}

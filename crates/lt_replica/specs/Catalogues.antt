@@ -1,5 +1,5 @@
 -- What a commit of another catalogue, or of other partitions, did.
-use Rattle.std.specs.Prelude.{Err, List, OnErr, OnOk, Result, map, ℕ, ◌≡◌}
+use Rattle.std.specs.Prelude.{Err, List, OnErr, OnOk, Result, ℕ, ◌≡◌}
 use Rattle.lt_tables.specs.Schema.{Catalogue}
 use Rattle.lt_parts.specs.declared.entry.PartEntry.{PartEntry}
 use Rattle.lt_world.specs.Disk.{DiskGoes, DiskState}

@@ -1,5 +1,5 @@
 -- A command that commits: what it needs of the replica, what it would leave, and what it left of the disk and of the store.
-use Rattle.std.specs.Prelude.{Err, IfErr, IfOk, IfSome, List, None, Ok, OnErr, OnOk, Option, Result, Some, [], false, length, map, true, ⊤, ℕ, ◌+◌, ◌-◌, ◌<◌, ◌^◌, ◌≡◌, ◌⊎◌}
+use Rattle.std.specs.Prelude.{Err, IfErr, List, None, Ok, OnOk, Option, Result, Some, [], false, length, map, true, ⊤, ◌+◌, ◌-◌, ◌<◌, ◌^◌, ◌≡◌, ◌⊎◌}
 use Rattle.lt_terms.specs.Log.{Change}
 use Rattle.lt_world.specs.Disk.{CountsOne, DiskGoes, DiskState, HasCause, LeftOnly}
 use Rattle.lt_world.specs.Feed.{Feed}

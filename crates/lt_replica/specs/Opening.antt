@@ -1,5 +1,5 @@
 -- What an opening finds: a session on the store that the disk has, or why none begins.
-use Rattle.std.specs.Prelude.{Bool, IfOk, IfSome, List, Option, Some, [], false, length, map, true, ⊤, ℕ, ◌-◌, ◌<◌, ◌≡◌, ◌⊎◌}
+use Rattle.std.specs.Prelude.{Bool, IfSome, List, Some, [], false, length, map, true, ⊤, ℕ, ◌-◌, ◌<◌, ◌≡◌, ◌⊎◌}
 use Rattle.lt_terms.specs.Log.{Header}
 use Rattle.lt_world.specs.Disk.{DiskState, Rose}
 use Rattle.lt_world.specs.Feed.{Feed, FeedState}

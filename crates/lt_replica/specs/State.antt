@@ -1,23 +1,18 @@
 -- What a replica stands for: a session, whose state is the machine's, with what it holds in memory, and where its parts stand on the disk.
-use Rattle.std.specs.Prelude.{IfSome, List, None, Option, Some, [], false, is_some, length, map, ℕ, ◌≡◌, ◌≤◌}
+use Rattle.std.specs.Prelude.{IfSome, List, None, Option, Some, [], false, is_some, length, map, ◌≡◌, ◌≤◌}
 use Rattle.lt_terms.specs.declared.Extent.{Extent}
-use Rattle.lt_tables.specs.Pump.{StreamAt}
 use Rattle.lt_machine.specs.Machine.{State}
 use Rattle.lt_world.specs.Feed.{FeedState}
-use Rattle.lt_tables.specs.Pump.{name_of}
 use Rattle.lt_machine.specs.Sound.{Memory}
 use Rattle.lt_machine.specs.Run.{StartFault, no_store, start_damaged, start_disk, start_feed, start_mismatch, store_there}
-use Rattle.lt_tables.specs.Schema.{Catalogue}
 use Rattle.lt_machine.specs.Sound.{Session}
 use Rattle.lt_storage.specs.Store.{Durable, bare_manifest}
 use Rattle.lt_image_laws.specs.Shelf.{placing_for}
-use Rattle.lt_parts.specs.declared.entry.PartEntry.{PartEntry}
 use Rattle.lt_pending.specs.Held.{held_in}
 use Rattle.lt_pump.specs.Pumps.{streams_of}
 use Rattle.lt_pump.specs.declared.refusal.AttachRefusal.{AttachRefusal}
 use Rattle.lt_pump.specs.declared.refusal.AttachRefusal.TheVariants as attach
 use Rattle.lt_store.specs.Standing.{StandsAt}
-use Rattle.lt_store.specs.declared.store.Store.{Store}
 use Rattle.lt_replica.specs.BareStore.{IsBare}
 pub use Rattle.lt_replica.specs.Numbers.{Numbers, durable_with, numbers_of, state_with}
 pub use Rattle.lt_replica.specs.Settling.{AreSettled, part_of_entry}

@@ -10,7 +10,7 @@ use Rattle.lt_replica.specs.Behind.{are_behind}
 use Rattle.lt_replica.specs.Numbers.{durable_with, numbers_of}
 use Rattle.lt_replica.specs.Splitting.{parted_at}
 use Rattle.lt_replica.specs.State.{memory_of}
-use Rattle.lt_replica.proofs.CommitLaws.{lawful_next, shape_kept, shape_of, still_taken, taken_by}
+use Rattle.lt_replica.proofs.CommitLaws.{lawful_next, shape_kept, still_taken, taken_by}
 use Rattle.lt_replica.proofs.SplitCommits.{shape_split}
 use Rattle.lt_replica.proofs.SplitLaws.{behind_parted, still_as_many}
 use Rattle.lt_replica.proofs.replica.Replica.commit_split.Goals as goal

@@ -1,4 +1,4 @@
-use Rattle.std.proofs.Common.{ap, map, refl, sym, ◌∙◌}
+use Rattle.std.proofs.Common.{ap, map, refl, ◌∙◌}
 use Rattle.lt_pump.specs.Pumps.{streams_of}
 use Rattle.lt_store.specs.Making.{bare_stream}
 use Rattle.lt_replica.specs.Numbers.{numbers_of}

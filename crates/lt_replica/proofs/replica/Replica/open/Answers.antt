@@ -9,7 +9,7 @@ use Rattle.lt_parts.specs.Parts.{AreParts}
 use Rattle.lt_store.proofs.Keeping.{stands_taken}
 use Rattle.lt_store.specs.Opening.{placing_read}
 use Rattle.lt_replica.specs.Numbers.{HasLawfulShape, numbers_of}
-use Rattle.lt_replica.specs.Opening.{RefusesOpening, begun_entry}
+use Rattle.lt_replica.specs.Opening.{RefusesOpening}
 use Rattle.lt_replica.specs.declared.refusal.OpeningRefusal.TheVariants as opening
 use Rattle.lt_replica.proofs.Results.{err_is}
 use Rattle.lt_replica.specs.Settling.{part_of_entry}

@@ -1,4 +1,4 @@
-use Rattle.std.proofs.Common.{ap, subst, sym, ◌∙◌}
+use Rattle.std.proofs.Common.{subst, sym}
 use Rattle.lt_replica.proofs.StartLaws.{has_started, not_started}
 use Rattle.lt_replica.specs.State.{view_start}
 use Rattle.lt_machine.specs.Step.{NotStarted}

@@ -1,6 +1,5 @@
-use Rattle.std.proofs.Common.{Bool, List, ap, false, length, refl, subst, sym, ◌∙◌, ◌≡◌, ◌≤◌}
+use Rattle.std.proofs.Common.{Bool, ap, false, subst, sym, ◌∙◌, ◌≡◌}
 use Rattle.lt_command.specs.View.{view_command}
-use Rattle.lt_tables.specs.Pump.{StreamAt}
 use Rattle.lt_tables.specs.Query.{do_schema}
 use Rattle.lt_pump.proofs.FeedLaws.{goes_itself}
 use Rattle.lt_replica.proofs.BuiltLaws.{scans_plain}
