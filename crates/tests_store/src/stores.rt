@@ -214,3 +214,22 @@ fn a_failed_call_leaves_the_old_manifest_or_the_new_one(rt: HostRuntime) {
         assert!(rt; call.is_none(), "after {count}, {call:?}");
     }
 }
+
+/// Whether a store which one failed call breaks commits again once it is opened anew, and then opens with that commit.
+fn mends(alloc: Global, call: u64) -> Option<bool>
+    requires { call < 9 }
+{
+    let mut disk = committed(alloc, 1)?;
+    disk.fail(&[call + 5]).ok()?;
+    let broke = resumes(alloc, &mut disk, 2)?;
+    let again = resumes(alloc, &mut disk, 3)?;
+    let (_, resume) = opens(alloc, &mut disk)?;
+    Some(broke == (Err(CommitRefusal::Disk), true) && again == (Ok(()), false) && resume == 3)
+}
+
+#[test]
+fn a_broken_store_that_is_opened_anew_commits(rt: HostRuntime) {
+    for call in [0, 1, 3, 4, 5, 6, 7, 8] {
+        assert!(rt; mends(rt.alloc(), call) == Some(true), "{call}");
+    }
+}
